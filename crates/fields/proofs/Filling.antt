@@ -1,0 +1,82 @@
+-- A buffer that an answer is written into piece by piece, from the front on: what was written so far, and what is left to write.
+-- Every writer of a file carries `Filling` through its loops, and puts a piece by `filling-next`.
+-- Assumes nothing.
+use mathlib.Core.Path.{_≡_, refl, sym, ap, ap₂, _∙_}
+use mathlib.Core.List.{List, [], _∷_, _++_, append-nil}
+use Prim.Native.Nat.{ℕ, zero, suc, _+_, _-_, _*_, _/_, _%_, _^_, _≤_, _<_}
+use native.Mathlib.Nat.{mod-eq-of-lt, div-one}
+use native.Mathlib.Omega.{arith}
+use lib.ListN.{length, take, drop, length-append, length-take, length-drop, take-append-drop}
+use lib.Seq.{drop-drop, take-add, take-all, take-append-seam, drop-append-seam, length-take-le}
+use Rattle.fields.specs.Fields.{digits}
+use Rattle.fields.specs.Writing.{patch, answered}
+use Rattle.fields.proofs.Patches.{answered-more, length-answered, patch-answered}
+
+-- `out` is `old` with the first `to` bytes of `file` written over it; `rest` is left to write
+pub record Filling (file old out : List ℕ) (to : ℕ) (rest : List ℕ) : Type 0 where
+  pub room : length file ≤ length old
+  pub within : to ≤ length file
+  pub left : drop to file ≡ rest
+  pub written : out ≡ answered (take to file) old
+
+pub filling-start : (file old : List ℕ) → length file ≤ length old → Filling file old old 0 file
+unfolding answered
+filling-start file old h = record { room = h; within = omega arith; left = refl; written = refl }
+
+module _ (file old out : List ℕ) (to : ℕ) where
+  -- what is left fits behind what was written, and the buffer's length stays
+  pub filling-room : (rest : List ℕ) → Filling file old out to rest → (to + length rest ≡ length file) × (to + length rest ≤ length out) × (length out ≡ length old)
+  filling-room rest f =
+      let d = length-drop to file in
+      let l : length rest ≡ length file - to = sym (ap length (f .left)) ∙ d in
+      let t : length (take to file) ≡ to = length-take-le to file (f .within) in
+      let w = f .within in
+      let r = f .room in
+      let n : length out ≡ length old = ap length (f .written) ∙ length-answered (take to file) old (omega arith) in
+      (omega arith, omega arith, omega arith)
+
+  -- the next piece
+  pub filling-next : (t rest : List ℕ) → Filling file old out to (t ++ rest) → Filling file old (patch out to t) (to + length t) rest
+  filling-next t rest f =
+      let m = filling-room (t ++ rest) f in
+      let n = length-append t rest in
+      let l : length (take to file) ≡ to = length-take-le to file (f .within) in
+      let k : take (to + length t) file ≡ take to file ++ t = take-add to (length t) file ∙ ap (λ x. take to file ++ take (length t) x) (f .left) ∙ ap (λ x. take to file ++ x) (take-append-seam t rest) in
+      let r = f .room in
+      record {
+        room = f .room;
+        within = omega arith;
+        left = sym (drop-drop (length t) to file) ∙ ap (drop (length t)) (f .left) ∙ drop-append-seam t rest;
+        written = ap (λ n. patch out n t) (sym l) ∙ answered-more old (take to file) t out (omega arith) (f .written) ∙ ap (λ x. answered x old) (sym k);
+      }
+
+  pub filling-end : Filling file old out to [] → out ≡ answered file old
+  filling-end f =
+      let d = length-drop to file in
+      let l : 0 ≡ length file - to = sym (ap length (f .left)) ∙ d in
+      f .written ∙ ap (λ x. answered x old) (take-all to file (omega arith))
+
+-- ---- a piece that is itself put from its front on, at a place
+pub placing-start : (old : List ℕ) (at : ℕ) (t : List ℕ) → at + length t ≤ length old → Filling (take at old ++ t) old old at t
+unfolding answered
+placing-start old at t h =
+    let l : length (take at old) ≡ at = length-take-le at old (omega arith) in
+    let n = length-append (take at old) t in
+    let k : take at (take at old ++ t) ≡ take at old = ap (λ m. take m (take at old ++ t)) (sym l) ∙ take-append-seam (take at old) t in
+    record {
+      room = omega arith;
+      within = omega arith;
+      left = ap (λ m. drop m (take at old ++ t)) (sym l) ∙ drop-append-seam (take at old) t;
+      written = sym (rw (k, l) (take-append-drop at old));
+    }
+
+pub placing-end : (old out : List ℕ) (at : ℕ) (t : List ℕ) (to : ℕ) → at + length t ≤ length old → Filling (take at old ++ t) old out to [] → out ≡ patch old at t
+placing-end old out at t to h f = filling-end (take at old ++ t) old out to f ∙ sym (patch-answered old at t h)
+
+-- ---- numbers that fit their width
+pub digits-one : (v : ℕ) → v < 256 → digits 1 (v % 256 ^ 1) ≡ v ∷ []
+unfolding digits
+digits-one v h = let m : v % 256 ≡ v = mod-eq-of-lt h in rw (m, div-one v)
+
+pub digits-fit : (w v : ℕ) → v < 256 ^ w → digits w (v % 256 ^ w) ≡ digits w v
+digits-fit w v h = ap (digits w) (mod-eq-of-lt h)

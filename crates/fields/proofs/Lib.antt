@@ -1,0 +1,14 @@
+pub mod Chains
+pub mod Checks
+pub mod Decimals
+pub mod Filling
+pub mod Indexes
+pub mod Lawful
+pub mod LawfulFields
+pub mod Lists
+pub mod Numbers
+pub mod Patches
+pub mod Reading
+pub mod Spelled
+pub mod Texts
+pub mod WholeFiles
