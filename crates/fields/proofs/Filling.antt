@@ -9,7 +9,11 @@ use native.Mathlib.Omega.{arith}
 use lib.ListN.{length, take, drop, length-append, length-take, length-drop, take-append-drop}
 use lib.Seq.{drop-drop, take-add, take-all, take-append-seam, drop-append-seam, length-take-le}
 use Rattle.fields.specs.Fields.{digits}
-use Rattle.fields.specs.Writing.{patch, answered}
+use borrow.Author.Tests.{lt-ltb, le-ltb}
+use Rattle.fields.specs.Format.{fine}
+use Rattle.fields.specs.Writing.{patch, answered, writing, buffer}
+use Rattle.fields.specs.declared.Refusal.the-variants.{OutputTooShort}
+use Rattle.fields.specs.declared.Written.the-variants.{Done, Refused}
 use Rattle.fields.proofs.Patches.{answered-more, length-answered, patch-answered}
 
 -- `out` is `old` with the first `to` bytes of `file` written over it; `rest` is left to write
@@ -80,3 +84,13 @@ digits-one v h = let m : v % 256 ≡ v = mod-eq-of-lt h in rw (m, div-one v)
 
 pub digits-fit : (w v : ℕ) → v < 256 ^ w → digits w (v % 256 ^ w) ≡ digits w v
 digits-fit w v h = ap (digits w) (mod-eq-of-lt h)
+
+-- ---- what a call that writes answers, and what it leaves in the buffer
+module _ (file old : List ℕ) (n : ℕ) (e : n ≡ length file) where
+  pub writing-short : length old < n → (Refused (OutputTooShort n) ≡ writing fine file old) × (old ≡ buffer (Refused (OutputTooShort n)) file old)
+  unfolding writing buffer
+  writing-short h = (rw (← e, lt-ltb (length old) n h), refl)
+
+  pub writing-done : (out : List ℕ) → n ≤ length old → out ≡ answered file old → (Done n ≡ writing fine file old) × (out ≡ buffer (Done n) file old)
+  unfolding writing buffer
+  writing-done out h a = (rw (← e, le-ltb (length old) n h), a)

@@ -1,0 +1,28 @@
+-- An answer as one number: one law for each way, and the answer of an exported function by that of the call it exports.
+-- Assumes nothing.
+use Prim.Native.Nat.{ℕ, _+_, _*_, _%_, _^_, _<_}
+use mathlib.Core.Path.{_≡_, refl, sym, ap, ap₂, _∙_}
+use mathlib.Core.List.{List}
+use native.Mathlib.Omega.{arith}
+use Rattle.fields.specs.Refusals.{numberOf, returnedOf}
+use Rattle.fields.specs.Writing.{buffer}
+use Rattle.fields.specs.declared.Refusal.{Refusal}
+use Rattle.fields.specs.declared.Written.{Written}
+use Rattle.fields.specs.declared.Written.the-variants.{Done, Refused}
+use Rattle.embed.specs.Returned.{low, returned}
+
+pub low-is : (n : ℕ) → (n % 72057594037927936 ≡ low n) × (n % 72057594037927936 < 72057594037927936)
+unfolding low
+low-is n = (refl, omega arith)
+
+pub returned-done : (w : Written) (n r : ℕ) → w ≡ Done n → r ≡ low n → r ≡ returned w
+unfolding returned
+returned-done w n r e q = rw e q
+
+pub returned-refused : (w : Written) (f : Refusal) (k p r : ℕ) → w ≡ Refused f → k ≡ numberOf f → p ≡ returnedOf f → r ≡ low p → k * 72057594037927936 + r ≡ returned w
+unfolding returned
+returned-refused w f k p r e a b q = rw (e, ← a, ← b, ← q)
+
+-- the answer of the call, told as a number
+pub exported : (x w : Written) (file old out : List ℕ) (r : ℕ) → (w ≡ x) × (out ≡ buffer w file old) → r ≡ returned w → (r ≡ returned x) × (out ≡ buffer x file old)
+exported x w file old out r a e = (e ∙ ap returned (a .0), a .1 ∙ ap (λ v. buffer v file old) (a .0))

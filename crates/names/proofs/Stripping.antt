@@ -1,0 +1,55 @@
+-- A path without its brackets and braces: lower case and leaving out may be done in either order.
+-- A text with no bracket and no brace to open stays as it is.
+-- Assumes nothing.
+use Prim.Native.Nat.{ℕ, _≤_}
+use mathlib.Core.Path.{_≡_, refl, sym, ap}
+use mathlib.Core.Bool.{false, _&&_}
+use mathlib.Core.List.{[], _∷_}
+use native.Mathlib.Omega.{arith}
+use lib.Dec.{eqb}
+use Rattle.fields.specs.Text.{Text, lower, lowered}
+use Rattle.fields.specs.Format.{All}
+use Rattle.fields.proofs.Lists.{cond-elim}
+use Rattle.names.specs.Strip.{skipping, isKept, stripFrom, stripped}
+use Rattle.names.proofs.Casing.{at-cond, eqb-lower, bracket-lower}
+
+-- ---- lower case
+-- a state: no letter ends what is left out
+abbrev State : ℕ → Type 0
+State k = (65 ≤ k → k ≤ 90 → ⊥) × (97 ≤ k → k ≤ 122 → ⊥)
+
+skipping-state : (k b : ℕ) → State k → State (skipping k b)
+unfolding skipping
+skipping-state k b h =
+    cond-elim State (eqb k 0) (λ e. cond-elim State (eqb b 91) (λ f. omega arith) (λ f. cond-elim State (eqb b 123) (λ g. omega arith) (λ g. omega arith)))
+    (λ e. cond-elim State (eqb b k) (λ f. omega arith) (λ f. h))
+
+skipping-lower : (k b : ℕ) → State k → skipping k (lower b) ≡ skipping k b
+unfolding skipping
+skipping-lower k b h =
+    rw (bracket-lower b, eqb-lower 123 (λ p q. omega arith) (λ p q. omega arith) b, eqb-lower k (h .0) (h .1) b)
+
+kept-lower : (k b : ℕ) → State k → isKept k (lower b) ≡ isKept k b
+unfolding isKept
+kept-lower k b h = ap (λ n. eqb k 0 && eqb n 0) (skipping-lower k b h)
+
+strip-lowered : (k : ℕ) (s : Text) → State k → stripFrom k (lowered s) ≡ lowered (stripFrom k s)
+unfolding stripFrom lowered
+strip-lowered k [] h = refl
+strip-lowered k (b ∷ r) h =
+    let e = stripFrom (skipping k b) r in
+    rw (kept-lower k b h, skipping-lower k b h, strip-lowered (skipping k b) r (skipping-state k b h)) (sym (at-cond lowered (isKept k b) (b ∷ e) e))
+
+pub stripped-lowered : (s : Text) → stripped (lowered s) ≡ lowered (stripped s)
+unfolding stripped
+stripped-lowered s = strip-lowered 0 s (omega arith)
+
+-- ---- nothing to leave out
+-- a byte that opens neither a bracket nor a brace
+abbrev pub OpensNone : ℕ → Type 0
+OpensNone b = (eqb b 91 ≡ false) × (eqb b 123 ≡ false)
+
+pub stripped-plain : (s : Text) → All OpensNone s → stripped s ≡ s
+unfolding stripped stripFrom isKept skipping
+stripped-plain [] h = refl
+stripped-plain (b ∷ r) h = rw (h .0 .0, h .0 .1) (ap (λ t. b ∷ t) (stripped-plain r (h .1)))

@@ -1,0 +1,41 @@
+//! Answers what the planner's own Rust answers, in the layouts of the port's files. planner.rs and plc.rs are the
+//! customer's, unchanged; around them stand readers and writers of the files, generators of cases from a seed, the
+//! stored cases and the comparison with the port's static library.
+
+#![allow(clippy::duplicate_mod)] // the window into planner.rs also stands in its counting copy
+
+#[rustfmt::skip]
+#[allow(clippy::all)]
+#[path = "../target/source/planner.rs"]
+pub mod planner;
+#[rustfmt::skip]
+#[allow(clippy::all)]
+#[path = "../target/source/plc.rs"]
+pub mod plc;
+#[rustfmt::skip]
+#[allow(clippy::all)]
+#[path = "../target/source/counted.rs"]
+pub mod counted;
+
+pub mod bytes;
+pub mod catalog;
+pub mod compare;
+pub mod config;
+pub mod features;
+pub mod generate;
+pub mod groups;
+pub mod guard;
+pub mod hand;
+pub mod kinds;
+pub mod library;
+pub mod list;
+pub mod lookup;
+pub mod names;
+pub mod plan;
+pub mod random;
+pub mod results;
+pub mod smaller;
+pub mod store;
+pub mod table;
+pub mod tally;
+pub mod value;

@@ -1,0 +1,92 @@
+//! The stored cases: one file a kind, a row of cases, each a row of fields behind a length of 4 bytes. Those made
+//! by hand come first, then generated ones that show something still rare, then any until there are enough.
+
+use std::collections::HashMap;
+use std::path::Path;
+
+use crate::bytes::Writer;
+use crate::kinds::{Fields, KINDS, Kind};
+use crate::random::Random;
+
+/// How often a feature is to be among the stored cases before it is no longer looked for.
+const WANTED: usize = 5;
+/// How many cases are looked at for rare features.
+const LOOKED_AT: usize = 6000;
+/// Generated cases of more bytes are left out, but for a few.
+const SMALL: usize = 1500;
+const FEW: usize = 12;
+
+/// Writes every file; tells their names, numbers of cases and sizes.
+pub fn store(folder: &Path, seed: u64) -> Result<Vec<String>, String> {
+    let mut lines = Vec::new();
+    for kind in KINDS {
+        let cases = choose(kind, seed)?;
+        let bytes = file(kind, &cases)?;
+        let path = folder.join(format!("{}.cases", kind.name));
+        std::fs::write(&path, &bytes).map_err(|e| format!("{}: {e}", path.display()))?;
+        lines.push(format!("{}.cases: {} cases, {} bytes", kind.name, cases.len(), bytes.len()));
+    }
+    Ok(lines)
+}
+
+/// Makes every file again and holds it against the stored one: a line for each, and whether all are the same.
+pub fn stored(folder: &Path, seed: u64) -> Result<(Vec<String>, bool), String> {
+    let mut lines = Vec::new();
+    let mut all = true;
+    for kind in KINDS {
+        let bytes = file(kind, &choose(kind, seed)?)?;
+        let same = std::fs::read(folder.join(format!("{}.cases", kind.name))).is_ok_and(|old| old == bytes);
+        all &= same;
+        lines.push(format!("{}.cases: {}", kind.name, if same { "same" } else { "different" }));
+    }
+    Ok((lines, all))
+}
+
+/// The cases of a kind, without their answers.
+pub fn choose(kind: &Kind, seed: u64) -> Result<Vec<Fields>, String> {
+    let mut seen: HashMap<&'static str, usize> = HashMap::new();
+    let mut cases = (kind.hand)();
+    for case in &cases {
+        note(kind, case, &mut seen)?;
+    }
+    let mut random = Random::named(seed, kind.name);
+    let mut large = 0;
+    let mut spare = Vec::new();
+    for _ in 0..LOOKED_AT {
+        let case = (kind.generate)(&mut random);
+        let big = case.iter().map(Vec::len).sum::<usize>() > SMALL;
+        if cases.contains(&case) || big && large >= FEW {
+            continue;
+        }
+        let features = (kind.features)(&case, &(kind.answer)(&case)?).0;
+        let rare = features.iter().any(|f| seen.get(f).is_none_or(|n| *n < WANTED));
+        if rare && cases.len() < kind.stored {
+            large += usize::from(big);
+            note(kind, &case, &mut seen)?;
+            cases.push(case);
+        } else if !big && spare.len() < kind.stored {
+            spare.push(case);
+        }
+    }
+    let missing = kind.stored.saturating_sub(cases.len());
+    cases.extend(spare.into_iter().take(missing));
+    Ok(cases)
+}
+
+fn note(kind: &Kind, case: &Fields, seen: &mut HashMap<&'static str, usize>) -> Result<(), String> {
+    for feature in (kind.features)(case, &(kind.answer)(case)?).0 {
+        *seen.entry(feature).or_default() += 1;
+    }
+    Ok(())
+}
+
+fn file(kind: &Kind, cases: &[Fields]) -> Result<Vec<u8>, String> {
+    let mut writer = Writer::default();
+    for case in cases {
+        for field in case.iter().chain([&(kind.answer)(case)?]) {
+            writer.count(4, field.len());
+            writer.file.extend_from_slice(field);
+        }
+    }
+    Ok(writer.file)
+}
