@@ -1,8 +1,8 @@
 -- An answer as one number: one law for each way, and the answer of an exported function by that of the call it exports.
 -- Assumes nothing.
-use Prim.Native.Nat.{ℕ, _+_, _*_, _%_, _^_, _<_}
-use mathlib.Core.Path.{_≡_, refl, sym, ap, ap₂, _∙_}
+use mathlib.Core.Path.{_≡_, refl, ap, _∙_}
 use mathlib.Core.List.{List}
+use Prim.Native.Nat.{ℕ, _+_, _*_, _%_, _<_}
 use native.Mathlib.Omega.{arith}
 use Rattle.fields.specs.Refusals.{numberOf, returnedOf}
 use Rattle.fields.specs.Writing.{buffer}

@@ -1,23 +1,22 @@
 -- The search for the last brace of a name from its end on, and what stands behind it.
 -- Assumes nothing.
-use Prim.Native.Nat.{ℕ, zero, suc, _+_, _-_, _≤_, _<_}
-use mathlib.Core.Path.{_≡_, refl, sym, ap, ap₂, _∙_}
+use mathlib.Core.Path.{_≡_, refl, sym, ap, _∙_}
 use mathlib.Core.Bool.{Bool, true, false, cond, false≢true}
-use mathlib.Core.List.{List, [], _∷_, _++_}
+use mathlib.Core.List.{[], _∷_}
 use mathlib.Core.Option.{Option, none, some}
+use Prim.Native.Nat.{ℕ, _+_, _-_, _≤_, _<_}
 use native.Mathlib.Omega.{arith}
 use lib.ListN.{length, take, drop, getD, length-take, length-drop, take-append-drop}
-use lib.Seq.{getD-drop, take-take}
+use lib.Seq.{getD-drop}
 use lib.Dec.{eqb, ltb}
 use borrow.Author.Tests.{lt-ltb, le-ltb, eq-eqb, ne-eqb}
 use Rattle.fields.specs.Text.{Text}
 use Rattle.fields.specs.Decimal.{numeralOf}
 use Rattle.fields.specs.Places.{part, numberTold}
-use Rattle.fields.specs.declared.Numeral.{Numeral}
 use Rattle.fields.specs.declared.Numeral.the-variants.{Value, Missing}
 use Rattle.fields.proofs.Lists.{drop-next, drop-past}
 use Rattle.names.specs.Pieces.{andThen}
-use Rattle.names.specs.Range.{Range, lastFrom, beforeBrace, rangeAt, rangeOf}
+use Rattle.names.specs.Range.{lastFrom, beforeBrace, rangeAt, rangeOf}
 use Rattle.names.specs.Told.{rangeTold}
 use Rattle.names.specs.declared.Ranged.{Ranged}
 use Rattle.names.specs.declared.Ranged.the-variants.{Of, Plain}

@@ -1,13 +1,13 @@
 -- Case and the tests on bytes: which tests do not see the case of a byte, and what lower case keeps of a text.
 -- Also the few laws on Boolean tests that the other files need.
 -- Assumes nothing.
-use Prim.Native.Nat.{ℕ, zero, suc, _≤_, _+_}
 use mathlib.Core.Path.{_≡_, refl, sym, ap, _∙_}
 use mathlib.Core.Bool.{Bool, true, false, cond, _&&_, false≢true}
 use mathlib.Core.List.{[], _∷_, _++_}
+use Prim.Native.Nat.{ℕ, zero, suc, _≤_, _+_}
 use native.Mathlib.Omega.{arith}
-use lib.Dec.{leb, eqb}
 use lib.ListN.{length, take, drop}
+use lib.Dec.{leb, eqb}
 use borrow.Author.Tests.{leb-true, lt-leb, le-leb, eq-eqb, ne-eqb, eqb-true, eqb-false}
 use Rattle.fields.specs.Text.{Text, between, lower, lowered, same}
 use Rattle.fields.specs.Decimal.{isDigit, allDigits, numeralOf}

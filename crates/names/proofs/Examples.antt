@@ -1,16 +1,15 @@
 -- Names of document 01 and 02, read by the definitions themselves: each row is computed.
 -- Assumes nothing.
-use Prim.Native.Nat.{ℕ}
 use mathlib.Core.Path.{_≡_, refl}
 use mathlib.Core.List.{List, [], _∷_}
-use mathlib.Core.Option.{Option, none, some}
+use mathlib.Core.Option.{none, some}
 use Rattle.fields.specs.Text.{Text, bytes, between, lower, lowered, same, alike}
 use Rattle.fields.specs.Decimal.{isDigit, allDigits, valueFrom, numeralOf}
 use Rattle.fields.specs.Places.{scan}
 use Rattle.names.specs.Pieces.{andThen, allOf, joined, onFirst, parts, pieces}
-use Rattle.names.specs.Name.{Key, member, item, several, Token, Reading, tokens, stops, isLetter, isNameByte, nameLength, isName, dotted, indexesOf, indexKey, indexed, isInside, insideLength, bracketed, laterToken, before, following, laterTokens, allTokens, inProgram, isUndotted, programLength, startsToken, readName, listed, tokensOf}
+use Rattle.names.specs.Name.{Key, member, item, several, Token, Reading, stops, isLetter, isNameByte, nameLength, isName, dotted, indexesOf, indexKey, indexed, isInside, insideLength, bracketed, laterToken, before, following, laterTokens, allTokens, inProgram, isUndotted, programLength, startsToken, readName, listed, tokensOf}
 use Rattle.names.specs.Strip.{skipping, isKept, stripFrom, stripped}
-use Rattle.names.specs.Range.{Range, lastFrom, beforeBrace, rangeAt, rangeOf}
+use Rattle.names.specs.Range.{lastFrom, beforeBrace, rangeAt, rangeOf}
 
 -- opens every definition that reading a name needs
 computing : Unit {0}

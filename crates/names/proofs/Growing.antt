@@ -1,11 +1,11 @@
 -- A name with one more token behind it has the name's tokens and that one.
 -- The two cases that names are made with: an index in brackets, and a member behind a dot.
 -- Assumes nothing.
-use Prim.Native.Nat.{ℕ}
 use mathlib.Core.Path.{_≡_, sym, ap, _∙_}
 use mathlib.Core.Bool.{true}
 use mathlib.Core.List.{List, [], _∷_, _++_, append-assoc}
 use mathlib.Core.Option.{some}
+use Prim.Native.Nat.{ℕ}
 use Rattle.fields.specs.Text.{Text}
 use Rattle.fields.specs.Decimal.{numeralOf}
 use Rattle.names.specs.Name.{Key, member, item, Token, tokens, isName, indexKey, readName, spelling, bracket}

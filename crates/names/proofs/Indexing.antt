@@ -1,25 +1,24 @@
 -- The numbers of a bracket, cut at commas: what is counted so far and what is left give the whole.
 -- Assumes nothing.
-use Prim.Native.Nat.{ℕ, zero, suc, _+_, _-_, _≤_, _<_}
-use mathlib.Core.Path.{_≡_, refl, sym, ap, ap₂, subst, _∙_}
-use mathlib.Core.Bool.{Bool, true, false, cond, not}
-use mathlib.Core.List.{List, [], _∷_, _++_, map}
+use mathlib.Core.Path.{_≡_, refl, sym, ap, ap₂, _∙_}
+use mathlib.Core.Bool.{Bool, true, false}
+use mathlib.Core.List.{List, [], _∷_, _++_}
 use mathlib.Core.Option.{Option, none, some}
+use Prim.Native.Nat.{ℕ, suc, _+_, _-_, _≤_, _<_}
 use native.Mathlib.Omega.{arith}
-use lib.ListN.{length, take, drop, getD, length-append, length-drop}
-use lib.Seq.{drop-drop, take-append-seam, drop-append-seam, drop-append-add}
+use lib.ListN.{length, take, drop, length-append, length-drop}
+use lib.Seq.{drop-drop, take-append-seam, drop-append-seam}
 use lib.Dec.{eqb}
 use Rattle.fields.specs.Text.{Text}
 use Rattle.fields.specs.Decimal.{numeralOf}
 use Rattle.fields.specs.Places.{scan, part, numberTold}
-use Rattle.fields.specs.declared.Numeral.{Numeral}
 use Rattle.fields.specs.declared.Numeral.the-variants.{Value, Missing}
+use Rattle.fields.proofs.Lists.{drop-next, drop-past}
 use Rattle.names.specs.Pieces.{andThen, allOf, onFirst, parts, isNot}
 use Rattle.names.specs.Name.{indexesOf}
 use Rattle.names.specs.Steps.{countTold}
 use Rattle.names.specs.declared.Indexes.{Indexes}
 use Rattle.names.specs.declared.Indexes.the-variants.{Counted, Unreadable}
-use Rattle.fields.proofs.Lists.{drop-next, drop-past}
 use Rattle.names.proofs.Casing.{eqb-sym}
 
 -- ---- a text cut where a scan for a byte ends

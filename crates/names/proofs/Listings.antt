@@ -1,25 +1,25 @@
 -- The listing of a whole name: its size as it was measured, its head and its tokens put one behind the other, and the answers.
 -- Assumes nothing.
-use Prim.Native.Nat.{ℕ, zero, suc, _+_, _-_, _*_, _≤_, _<_}
 use mathlib.Core.Path.{_≡_, refl, sym, ap, ap₂, subst, _∙_}
-use mathlib.Core.Bool.{Bool, true, false, cond}
+use mathlib.Core.Bool.{cond}
 use mathlib.Core.List.{List, [], _∷_, _++_}
 use mathlib.Core.Option.{Option, none, some}
+use Prim.Native.Nat.{ℕ, suc, _+_, _≤_, _<_}
 use native.Mathlib.Omega.{arith}
+use lib.ListN.{length, take, drop, length-take}
+use lib.Seq.{drop-drop}
 use lib.Dec.{ltb}
-use lib.ListN.{length, take, drop, length-take, length-drop}
-use lib.Seq.{drop-append-seam, drop-append-le, take-append-le, drop-drop}
 use borrow.Author.Tests.{lt-ltb, le-ltb}
 use Rattle.fields.specs.Text.{Text}
 use Rattle.fields.specs.Decimal.{numeralOf}
-use Rattle.fields.specs.Format.{Verdict, fine, bad}
+use Rattle.fields.specs.Format.{fine}
 use Rattle.fields.specs.Fields.{digits}
 use Rattle.fields.specs.Writing.{patch, answered, writing, buffer}
 use Rattle.fields.specs.declared.Refusal.the-variants.{OverLimit}
 use Rattle.fields.specs.declared.Written.{Written}
-use Rattle.fields.specs.declared.Written.the-variants.{Done, Refused}
+use Rattle.fields.specs.declared.Written.the-variants.{Refused}
 use Rattle.fields.proofs.Lists.{cond-elim}
-use Rattle.fields.proofs.Patches.{patch-fits, length-patch, length-answered}
+use Rattle.fields.proofs.Patches.{patch-fits, length-patch}
 use Rattle.names.specs.Pieces.{andThen}
 use Rattle.names.specs.Name.{Token, Reading, tokens, stops, readName}
 use Rattle.names.specs.Range.{Range, lastFrom, beforeBrace, rangeAt, rangeOf}
@@ -27,13 +27,12 @@ use Rattle.names.specs.Steps.{firstStep}
 use Rattle.names.specs.Listing.{longestName, nameCheck, layTokens, layReading, tokenListing, layRange, rangeListing}
 use Rattle.names.specs.Told.{Based, Listable, measured, rangeTold}
 use Rattle.names.specs.declared.Step.the-variants.{Token as AToken, End, Stops}
-use Rattle.names.specs.declared.Measured.{Measured}
 use Rattle.names.specs.declared.Measured.the-variants.{Listing, Nothing}
 use Rattle.names.specs.declared.Ranged.the-variants.{Of, Plain}
 use Rattle.names.proofs.Spelling.{few-tokens}
 use Rattle.names.proofs.Measuring.{based-tells}
-use Rattle.names.proofs.Placing.{Shape, shape-of}
-use Rattle.names.proofs.Walking.{FirstRead, FirstTells, first-tells}
+use Rattle.names.proofs.Placing.{shape-of}
+use Rattle.names.proofs.Walking.{FirstTells, first-tells}
 
 -- ---- what was measured
 pub record Listed (s : Text) (n bytes : ℕ) : Type 0 where

@@ -1,13 +1,13 @@
 -- Lower case keeps the tokens of a name, and the place where reading stops.
 -- So two spellings of one name are read alike.
 -- Assumes nothing.
-use Prim.Native.Nat.{ℕ, _+_}
 use mathlib.Core.Path.{_≡_, refl, sym, ap, _∙_}
 use mathlib.Core.Bool.{cond}
 use mathlib.Core.List.{List, [], _∷_, _++_, map}
 use mathlib.Core.Option.{Option, none, some}
-use lib.Dec.{eqb, ltb}
+use Prim.Native.Nat.{ℕ, _+_}
 use lib.ListN.{length, take, drop}
+use lib.Dec.{eqb, ltb}
 use Rattle.fields.specs.Text.{Text, lowered, alike}
 use Rattle.fields.specs.Decimal.{numeralOf}
 use Rattle.names.specs.Pieces.{allOf, parts, pieces}

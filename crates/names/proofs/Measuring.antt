@@ -1,24 +1,23 @@
 -- How many bytes list the tokens of a name: what was measured so far and what is left give the whole.
 -- Assumes nothing.
-use Prim.Native.Nat.{ℕ, zero, suc, _+_, _-_, _*_, _≤_, _<_}
 use mathlib.Core.Path.{_≡_, refl, sym, ap, ap₂, subst, _∙_}
 use mathlib.Core.Bool.{Bool, true, false, cond}
 use mathlib.Core.List.{List, [], _∷_, _++_, map}
 use mathlib.Core.Option.{Option, none, some}
+use Prim.Native.Nat.{ℕ, suc, _+_, _-_, _*_, _≤_, _<_}
 use native.Mathlib.Omega.{arith}
-use lib.Dec.{eqb}
 use lib.ListN.{length, take, drop, length-append, length-take, length-drop}
+use lib.Dec.{eqb}
 use Rattle.fields.specs.Text.{Text}
 use Rattle.fields.specs.Decimal.{numeralOf}
 use Rattle.fields.specs.Fields.{digits}
 use Rattle.fields.specs.Places.{part}
 use Rattle.fields.proofs.Spelled.{length-digits}
 use Rattle.names.specs.Pieces.{andThen, allOf, onFirst, parts}
-use Rattle.names.specs.Name.{Key, member, item, several, Token, Piece, reads, stopsAt, Reading, tokens, stops, indexesOf, indexKey, laterToken, before, readName, bracket}
-use Rattle.names.specs.Steps.{indexesIn, stepAt, firstStep, readFrom}
+use Rattle.names.specs.Name.{Key, member, Token, reads, Reading, tokens, stops, indexesOf, indexKey, laterToken, before, readName, bracket}
+use Rattle.names.specs.Steps.{indexesIn, stepAt, readFrom}
 use Rattle.names.specs.Listing.{longestName, layIndexes, layToken, layTokens}
 use Rattle.names.specs.Told.{Based, measured, bytesIn}
-use Rattle.names.specs.declared.Step.{Step}
 use Rattle.names.specs.declared.Step.the-variants.{Token as AToken, End, Stops}
 use Rattle.names.specs.declared.Measured.{Measured}
 use Rattle.names.specs.declared.Measured.the-variants.{Listing, Nothing}

@@ -1,28 +1,25 @@
 -- What the code's steps answer for a piece of a name: `.name`, `[n]`, the first name, and the program part before it.
 -- One law for each way through the code.
 -- Assumes nothing.
-use Prim.Native.Nat.{ℕ, zero, suc, _+_, _-_, _≤_, _<_, min}
-use mathlib.Core.Path.{_≡_, refl, sym, ap, ap₂, subst, _∙_}
-use mathlib.Core.Bool.{Bool, true, false, cond, not, _&&_, _||_, true≢false, false≢true}
-use mathlib.Core.List.{List, [], _∷_, _++_}
+use mathlib.Core.Path.{_≡_, refl, sym, ap, _∙_}
+use mathlib.Core.Bool.{Bool, true, false, cond, not, _&&_}
+use mathlib.Core.List.{List, [], _∷_}
 use mathlib.Core.Option.{Option, none, some}
+use Prim.Native.Nat.{ℕ, suc, _+_, _≤_, _<_}
 use native.Mathlib.Omega.{arith}
-use lib.ListN.{length, take, drop, getD, length-append, length-take, length-drop}
-use lib.Seq.{take-all}
-use lib.Dec.{eqb, ltb}
+use lib.ListN.{length, take, drop, getD, length-take}
+use lib.Dec.{ltb}
 use borrow.Author.Tests.{lt-ltb, le-ltb, eq-eqb, ne-eqb}
-use Rattle.fields.specs.Text.{Text, bytes, lowered, alike}
-use Rattle.fields.specs.Places.{scan, part}
-use Rattle.fields.proofs.Lists.{drop-next, drop-past, cond-elim}
+use Rattle.fields.specs.Text.{Text, bytes, alike}
+use Rattle.fields.specs.Places.{scan}
+use Rattle.fields.proofs.Lists.{cond-elim}
 use Rattle.fields.proofs.Texts.{scan-more, scan-stop, scan-end, alike-is, length-lowered}
 use Rattle.names.specs.Pieces.{isNot}
-use Rattle.names.proofs.Cutting.{scan-within}
-use Rattle.names.specs.Name.{Piece, reads, stopsAt, isLetter, isNameByte, isName, nameLength, dotted, indexesOf, indexKey, indexed, isInside, insideLength, bracketed, laterToken, inProgram, isUndotted, programLength, startsToken}
-use Rattle.names.specs.Steps.{countTold, indexesIn, pieceTold, isPieceByte, pieceEnd, stepAt, baseTold, baseAt, firstStep}
-use Rattle.names.specs.declared.Indexes.{Indexes}
+use Rattle.names.specs.Name.{reads, stopsAt, isLetter, isNameByte, isName, nameLength, dotted, indexesOf, indexKey, indexed, isInside, insideLength, bracketed, inProgram, isUndotted, programLength, startsToken}
+use Rattle.names.specs.Steps.{countTold, indexesIn, pieceTold, isPieceByte, pieceEnd}
 use Rattle.names.specs.declared.Indexes.the-variants.{Counted, Unreadable}
-use Rattle.names.specs.declared.Step.{Step}
-use Rattle.names.specs.declared.Step.the-variants.{Token, End, Stops}
+use Rattle.names.specs.declared.Step.the-variants.{Token, Stops}
+use Rattle.names.proofs.Cutting.{scan-within}
 
 -- ---- scans for a byte, and for the end of a piece
 module _ (b : ℕ) (t : Text) (i : ℕ) (h : i < length t) where

@@ -1,43 +1,34 @@
 -- The bytes of a token listing as they are put into the buffer: the head, the indexes of a bracket, one token, all tokens, a range.
 -- Assumes nothing.
-use Prim.Native.Nat.{ℕ, zero, suc, _+_, _-_, _*_, _%_, _^_, _≤_, _<_}
 use mathlib.Core.Path.{_≡_, refl, sym, ap, ap₂, subst, _∙_}
 use mathlib.Core.Bool.{Bool, true, false, cond, _&&_}
 use mathlib.Core.List.{List, [], _∷_, _++_, append-nil}
 use mathlib.Core.Option.{Option, none, some}
+use Prim.Native.Nat.{ℕ, suc, _+_, _-_, _*_, _%_, _^_, _≤_, _<_}
 use native.Mathlib.Omega.{arith}
-use lib.Dec.{eqb, ltb}
 use lib.ListN.{length, take, drop, length-append, length-take, length-drop, take-append-drop}
 use lib.Seq.{take-append-seam, length-take-le}
-use borrow.Author.Tests.{ltb-true, lt-ltb, le-ltb}
+use lib.Dec.{ltb}
+use borrow.Author.Tests.{ltb-true}
 use Rattle.fields.specs.Text.{Text}
 use Rattle.fields.specs.Decimal.{allDigits, valueFrom, numberEnd, numeralOf}
-use Rattle.fields.specs.Format.{Verdict, fine, bad}
 use Rattle.fields.specs.Fields.{digits}
 use Rattle.fields.specs.Places.{scan, part, numberTold}
-use Rattle.fields.specs.Writing.{patch, answered, writing, buffer}
-use Rattle.fields.specs.declared.Refusal.the-variants.{OverLimit}
-use Rattle.fields.specs.declared.Written.{Written}
-use Rattle.fields.specs.declared.Written.the-variants.{Done, Refused}
+use Rattle.fields.specs.Writing.{patch, answered}
 use Rattle.fields.specs.declared.Numeral.the-variants.{Value, Missing}
 use Rattle.fields.proofs.Spelled.{length-digits}
-use Rattle.fields.proofs.Patches.{patch-patch, length-patch, patch-answered}
+use Rattle.fields.proofs.Patches.{length-patch}
 use Rattle.fields.proofs.Filling.{Filling, filling-start, filling-room, filling-next, filling-end, placing-start, placing-end, digits-one, digits-fit}
 use Rattle.names.specs.Pieces.{andThen, isNot}
-use Rattle.names.specs.Name.{Key, member, Token, Piece, reads, stopsAt, Reading, tokens, stops, indexesOf, indexKey, laterToken, before, readName, bracket}
-use Rattle.names.specs.Range.{Range, lastFrom, beforeBrace, rangeAt, rangeOf}
-use Rattle.names.specs.Steps.{indexesIn, stepAt, firstStep, readFrom}
-use Rattle.names.specs.Listing.{longestName, nameCheck, layIndexes, layToken, layTokens, layReading, tokenListing, layRange, rangeListing}
-use Rattle.names.specs.Told.{Based, IndexRoom, TokenRoom, Listable, listedIndexes, layPiece, measured, rangeTold}
-use Rattle.names.specs.declared.Step.{Step}
+use Rattle.names.specs.Name.{member, Token, Reading, tokens, stops, indexesOf, laterToken, before, readName, bracket}
+use Rattle.names.specs.Steps.{indexesIn, stepAt, readFrom}
+use Rattle.names.specs.Listing.{longestName, layIndexes, layToken, layTokens, layReading, tokenListing}
+use Rattle.names.specs.Told.{Based, IndexRoom, TokenRoom, Listable, listedIndexes, layPiece}
 use Rattle.names.specs.declared.Step.the-variants.{Token as AToken, End, Stops}
-use Rattle.names.specs.declared.Measured.the-variants.{Listing, Nothing}
-use Rattle.names.specs.declared.Ranged.the-variants.{Of, Plain}
-use Rattle.names.proofs.Indexing.{PartAt, part-at, indexesFrom, unreadable, last-index, more-indexes, told-missing, told-value}
+use Rattle.names.proofs.Indexing.{indexesFrom, unreadable, last-index, more-indexes, told-missing, told-value}
 use Rattle.names.proofs.Tokens.{Form, dot, indexes, form-of}
-use Rattle.names.proofs.Spelling.{few-tokens}
 use Rattle.names.proofs.Measuring.{index-count, length-indexes, length-token, token-few, based-tells}
-use Rattle.names.proofs.Walking.{StepRead, StepTells, step-tells, FirstRead, read-end}
+use Rattle.names.proofs.Walking.{StepRead, StepTells, step-tells, read-end}
 
 -- ---- single bytes
 -- a byte put behind what was written

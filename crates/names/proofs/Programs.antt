@@ -1,10 +1,10 @@
 -- The program part of a name: what stands behind it does not change it, and a name with tokens outside a program stays outside.
 -- So a part, a name and pieces in a row are read as that part, that name and those pieces.
 -- Assumes nothing.
-use Prim.Native.Nat.{ℕ, _≤_, _+_}
 use mathlib.Core.Path.{_≡_, refl, sym, ap, subst, _∙_}
 use mathlib.Core.Bool.{Bool, true, false, not, true≢false}
 use mathlib.Core.List.{List, [], _∷_, _++_}
+use Prim.Native.Nat.{ℕ, _≤_, _+_}
 use native.Mathlib.Omega.{arith}
 use lib.ListN.{length, take, drop, take-append-drop}
 use lib.Seq.{take-append-seam, drop-append-seam, take-append-le, take-take, length-take-le}

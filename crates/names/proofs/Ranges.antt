@@ -1,16 +1,16 @@
 -- Reads of several elements: an array with a count in braces is one, and a name with tokens is none.
 -- It goes by the last byte: a name with tokens ends in a name byte or a closing bracket.
 -- Assumes nothing.
-use Prim.Native.Nat.{ℕ, zero, suc, _<_, _+_, _-_}
 use mathlib.Core.Path.{_≡_, refl, sym, ap, subst, _∙_}
 use mathlib.Core.Bool.{Bool, true, false, cond, true≢false}
 use mathlib.Core.List.{List, [], _∷_, _++_, append-assoc, append-nil}
 use mathlib.Core.Option.{Option, none, some}
-use native.Mathlib.Omega.{arith}
+use Prim.Native.Nat.{ℕ, zero, suc, _<_, _+_, _-_}
 use native.Mathlib.Nat.{le-of-suc-le-suc}
-use lib.Dec.{eqb, ltb}
+use native.Mathlib.Omega.{arith}
 use lib.ListN.{length, drop, getD, length-append, length-drop, drop-of-length-le}
 use lib.Seq.{take-append-seam, drop-append-add, getD-append-seam, getD-append-add, getD-drop}
+use lib.Dec.{eqb, ltb}
 use borrow.Author.Tests.{lt-ltb, ltb-true, ltb-false}
 use Rattle.fields.specs.Text.{Text, between}
 use Rattle.fields.specs.Decimal.{isDigit, numeralOf}

@@ -1,13 +1,13 @@
 -- A path without its brackets: the states of the scan, and the loops that count what is kept and write it.
 -- Assumes nothing.
-use Prim.Native.Nat.{ℕ, zero, suc, _+_, _-_, _≤_, _<_}
-use mathlib.Core.Path.{_≡_, refl, sym, ap, ap₂, _∙_}
-use mathlib.Core.Bool.{Bool, true, false, cond, _&&_}
+use mathlib.Core.Path.{_≡_, refl, sym, ap, _∙_}
+use mathlib.Core.Bool.{true, false}
 use mathlib.Core.List.{List, [], _∷_, _++_, append-assoc}
+use Prim.Native.Nat.{ℕ, suc, _+_, _-_, _≤_, _<_}
 use native.Mathlib.Omega.{arith}
 use native.Mathlib.Numerals.{add-one}
-use lib.ListN.{length, take, drop, getD, set, length-set, length-take, length-drop, length-append}
-use lib.Seq.{drop-drop, take-suc, take-length, drop-length, set-at, getD-drop, length-take-le, take-all}
+use lib.ListN.{length, take, drop, getD, set, length-drop, length-append}
+use lib.Seq.{drop-drop, take-suc, set-at, getD-drop, length-take-le, take-all}
 use lib.Dec.{eqb}
 use borrow.Author.Tests.{eq-eqb, ne-eqb}
 use Rattle.fields.specs.Text.{Text}

@@ -1,21 +1,21 @@
 -- What `next_token` and `first_token` answer, once a piece is cut: one law for each way through them.
 -- Assumes nothing.
-use Prim.Native.Nat.{ℕ, zero, suc, _+_, _-_, _≤_, _<_, min}
 use mathlib.Core.Path.{_≡_, refl, sym, ap, _∙_}
 use mathlib.Core.Bool.{Bool, true, false, cond, _&&_}
-use mathlib.Core.List.{List, [], _∷_}
+use mathlib.Core.List.{_∷_}
+use Prim.Native.Nat.{ℕ, _+_, _-_, _≤_, _<_}
 use native.Mathlib.Omega.{arith}
 use lib.ListN.{length, take, drop, getD, length-take, length-drop}
-use lib.Dec.{eqb, ltb}
+use lib.Dec.{ltb}
 use borrow.Author.Tests.{lt-ltb, le-ltb, eq-eqb, ne-eqb}
 use Rattle.fields.specs.Text.{Text}
 use Rattle.fields.specs.Places.{part}
-use Rattle.names.specs.Name.{Piece, reads, stopsAt, isName, nameLength, dotted, bracketed, laterToken, programLength}
+use Rattle.names.specs.Name.{isName, nameLength, dotted, bracketed, laterToken, programLength}
 use Rattle.names.specs.Steps.{pieceTold, pieceEnd, stepAt, baseTold, baseAt, firstStep}
 use Rattle.names.specs.declared.Step.{Step}
 use Rattle.names.specs.declared.Step.the-variants.{Token, End, Stops}
 use Rattle.names.proofs.Piecewise.{name-within}
-use Rattle.names.proofs.Walking.{CutAt, cut-at, part-first}
+use Rattle.names.proofs.Walking.{cut-at, part-first}
 
 pub next-end : (s : Text) (at : ℕ) → length s ≤ at → End ≡ stepAt s at
 unfolding stepAt

@@ -1,13 +1,13 @@
 -- Where reading a name stops: in the name, or at its end.
 -- Each reader of a piece stops within the piece.
 -- Assumes nothing.
-use Prim.Native.Nat.{ℕ, _≤_, _+_}
 use mathlib.Core.Path.{_≡_, sym, ap, subst}
 use mathlib.Core.List.{List, [], _∷_, _++_}
 use mathlib.Core.Option.{Option, none, some}
+use Prim.Native.Nat.{ℕ, _≤_, _+_}
 use native.Mathlib.Omega.{arith}
-use lib.Dec.{eqb, ltb}
 use lib.ListN.{length, take, drop, take-append-drop, length-append}
+use lib.Dec.{eqb, ltb}
 use borrow.Author.Tests.{ltb-true}
 use Rattle.fields.specs.Text.{Text}
 use Rattle.fields.specs.Places.{scan}

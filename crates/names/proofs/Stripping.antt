@@ -1,10 +1,10 @@
 -- A path without its brackets and braces: lower case and leaving out may be done in either order.
 -- A text with no bracket and no brace to open stays as it is.
 -- Assumes nothing.
-use Prim.Native.Nat.{ℕ, _≤_}
 use mathlib.Core.Path.{_≡_, refl, sym, ap}
 use mathlib.Core.Bool.{false, _&&_}
 use mathlib.Core.List.{[], _∷_}
+use Prim.Native.Nat.{ℕ, _≤_}
 use native.Mathlib.Omega.{arith}
 use lib.Dec.{eqb}
 use Rattle.fields.specs.Text.{Text, lower, lowered}

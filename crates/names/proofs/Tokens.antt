@@ -1,15 +1,15 @@
 -- What a piece of a name that reads as a token looks like: a dot and a name, or indexes in brackets.
 -- From this follow the bytes of a token and its length, and that what reads is a piece.
 -- Assumes nothing.
-use Prim.Native.Nat.{ℕ, suc, _≤_, _<_, _+_}
 use mathlib.Core.Path.{_≡_, refl, sym, ap, subst, _∙_}
 use mathlib.Core.Bool.{Bool, true, false, cond, _&&_, _||_, false≢true, or-true}
 use mathlib.Core.List.{List, [], _∷_, _++_, map}
 use mathlib.Core.Option.{Option, none, some, Option·none-ne-some}
+use Prim.Native.Nat.{ℕ, suc, _≤_, _<_, _+_}
 use native.Mathlib.Omega.{arith}
-use lib.Dec.{eqb, ltb}
 use lib.ListN.{length, take, drop, take-append-drop, length-append, length-drop}
 use lib.Seq.{take-append-seam}
+use lib.Dec.{eqb, ltb}
 use borrow.Author.Tests.{eqb-true, lt-ltb, eq-eqb, not-false}
 use Rattle.fields.specs.Text.{Text, between}
 use Rattle.fields.specs.Decimal.{isDigit, allDigits, valueFrom, numberEnd, numeralOf}

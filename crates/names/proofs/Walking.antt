@@ -1,21 +1,19 @@
 -- How the code's steps from place to place go through the pieces of a name: each step's answer tells what reading the rest gives.
 -- Assumes nothing.
-use Prim.Native.Nat.{ℕ, zero, suc, _+_, _-_, _≤_, _<_}
 use mathlib.Core.Path.{_≡_, refl, sym, ap, ap₂, subst, _∙_}
-use mathlib.Core.Bool.{Bool, true, false, cond, not, _&&_, _||_, true≢false, false≢true}
+use mathlib.Core.Bool.{Bool, true, false, cond, _||_, true≢false, false≢true}
 use mathlib.Core.List.{List, [], _∷_, _++_}
+use Prim.Native.Nat.{ℕ, zero, suc, _+_, _-_, _≤_, _<_}
 use native.Mathlib.Omega.{arith}
-use native.Mathlib.Numerals.{add-one}
-use lib.ListN.{length, take, drop, getD, length-append, length-take, length-drop, take-append-drop}
-use lib.Seq.{drop-drop, take-append-seam, drop-append-seam, take-append-add, take-at, drop-at, drop-cons, take-length, take-add}
+use lib.ListN.{length, take, drop, getD, length-append, length-take, length-drop}
+use lib.Seq.{drop-drop, take-append-seam, drop-append-seam, take-add}
 use lib.Dec.{eqb, ltb}
-use borrow.Author.Tests.{lt-ltb, le-ltb, eq-eqb, ne-eqb, ltb-true, ltb-false, eqb-true, eqb-false}
+use borrow.Author.Tests.{ltb-true, ltb-false}
 use Rattle.fields.specs.Text.{Text}
-use Rattle.fields.specs.Format.{All}
 use Rattle.fields.specs.Places.{scan, part}
 use Rattle.fields.proofs.Lists.{drop-next, drop-past, drop-there, cond-elim}
 use Rattle.names.specs.Pieces.{onFirst, pieces}
-use Rattle.names.specs.Name.{Key, member, item, several, Token, Piece, reads, stopsAt, Reading, tokens, stops, isName, nameLength, dotted, bracketed, laterToken, before, following, laterTokens, allTokens, programLength, startsToken, readName}
+use Rattle.names.specs.Name.{Key, member, Piece, reads, stopsAt, tokens, stops, isName, nameLength, dotted, bracketed, laterToken, before, following, laterTokens, allTokens, programLength, startsToken, readName}
 use Rattle.names.specs.Steps.{indexesIn, pieceTold, isPieceByte, pieceEnd, stepAt, baseTold, baseAt, firstStep, laterFrom, readFrom}
 use Rattle.names.specs.declared.Step.{Step}
 use Rattle.names.specs.declared.Step.the-variants.{Token as AToken, End, Stops}

@@ -1,5 +1,6 @@
-use Rattle.embed.proofs.Returning.{returned-done, returned-refused}
+-- `encode` meets its contract: each of the two answers is told as one number, by the laws in Returning.
 use borrow.Author.Needs.{needs}
+use Rattle.embed.proofs.Returning.{returned-done, returned-refused}
 use Rattle.embed.proofs.encode.Statement.{statement}
 use Rattle.embed.proofs.encode.Tie as tie
 

@@ -1,5 +1,5 @@
+-- `low_bits` meets its contract, which is that of a remainder.
 use Rattle.embed.proofs.Returning.{low-is}
-use borrow.Author.Needs.{needs}
 use Rattle.embed.proofs.low_bits.Statement.{statement}
 use Rattle.embed.proofs.low_bits.Tie as tie
 

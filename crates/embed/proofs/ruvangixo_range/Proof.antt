@@ -1,5 +1,6 @@
-use Rattle.embed.proofs.Returning.{exported}
+-- `ruvangixo_range` meets its contract: the answer of `list_range`, told as a number.
 use borrow.Author.Needs.{needs}
+use Rattle.embed.proofs.Returning.{exported}
 use Rattle.embed.proofs.ruvangixo_range.Statement.{statement}
 use Rattle.embed.proofs.ruvangixo_range.Tie as tie
 

@@ -1,5 +1,6 @@
-use Rattle.embed.proofs.Returning.{exported}
+-- `ruvangixo_strip` meets its contract: the answer of `strip`, told as a number.
 use borrow.Author.Needs.{needs}
+use Rattle.embed.proofs.Returning.{exported}
 use Rattle.embed.proofs.ruvangixo_strip.Statement.{statement}
 use Rattle.embed.proofs.ruvangixo_strip.Tie as tie
 

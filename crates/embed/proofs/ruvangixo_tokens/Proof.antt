@@ -1,5 +1,6 @@
-use Rattle.embed.proofs.Returning.{exported}
+-- `ruvangixo_tokens` meets its contract: the answer of `tokenize`, told as a number.
 use borrow.Author.Needs.{needs}
+use Rattle.embed.proofs.Returning.{exported}
 use Rattle.embed.proofs.ruvangixo_tokens.Statement.{statement}
 use Rattle.embed.proofs.ruvangixo_tokens.Tie as tie
 

@@ -1,5 +1,6 @@
-use lib.ListN.{length}
+-- `replay` is safe and ends: each turn leaves less of the file.
 use Prim.Native.Nat.{_-_}
+use lib.ListN.{length}
 use borrow.Author.Needs.{needs}
 use Rattle.replay.proofs.replay.Statement.{statement}
 use Rattle.replay.proofs.replay.Tie as tie

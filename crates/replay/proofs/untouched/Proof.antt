@@ -1,5 +1,6 @@
-use lib.ListN.{length}
+-- `untouched` is safe and ends: each turn is one byte nearer to the buffer's end.
 use Prim.Native.Nat.{_-_}
+use lib.ListN.{length}
 use borrow.Author.Needs.{needs}
 use Rattle.replay.proofs.untouched.Statement.{statement}
 use Rattle.replay.proofs.untouched.Tie as tie

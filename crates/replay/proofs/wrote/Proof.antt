@@ -1,6 +1,7 @@
+-- `wrote` is safe: the part that is compared lies inside the buffer.
+use mathlib.Core.Path.{sym}
 use lib.Seq.{length-take-le}
 use denote.Ref.{now}
-use mathlib.Core.Path.{sym}
 use borrow.Author.Needs.{needs}
 use Rattle.replay.proofs.wrote.Statement.{statement}
 use Rattle.replay.proofs.wrote.Tie as tie

@@ -1,7 +1,8 @@
-use Rattle.names.proofs.Listings.{too-long, name-fine, same-file, no-range, range-listing, range-within}
-use native.Mathlib.Omega.{arith}
+-- `list_range` meets its contract: a name is refused by its length alone, and every other one is listed by what `range` answered.
 use mathlib.Core.Path.{sym, _∙_}
+use native.Mathlib.Omega.{arith}
 use borrow.Author.Needs.{needs}
+use Rattle.names.proofs.Listings.{too-long, name-fine, same-file, no-range, range-listing, range-within}
 use Rattle.names.proofs.listing.list_range.Statement.{statement}
 use Rattle.names.proofs.listing.list_range.Tie as tie
 

@@ -1,9 +1,10 @@
-use Rattle.names.proofs.Measuring.{Measuring, measuring-start, measuring-fits, measuring-next, measuring-end, measuring-stops}
-use lib.ListN.{length}
-use native.Mathlib.Omega.{arith}
-use Prim.Native.Nat.{_-_}
+-- `measure` meets its contract: what was measured so far and what is left give the whole, at most 8 bytes for each byte of the name.
 use mathlib.Core.Path.{sym, _∙_}
+use Prim.Native.Nat.{_-_}
+use native.Mathlib.Omega.{arith}
+use lib.ListN.{length}
 use borrow.Author.Needs.{needs}
+use Rattle.names.proofs.Measuring.{Measuring, measuring-start, measuring-fits, measuring-next, measuring-end, measuring-stops}
 use Rattle.names.proofs.listing.measure.Statement.{statement}
 use Rattle.names.proofs.listing.measure.Tie as tie
 

@@ -1,6 +1,6 @@
-use Rattle.names.proofs.Placing.{head-put}
-use mathlib.Core.Path.{ap, _∙_}
+-- `put_head` meets its contract: three bytes put one behind the other are one put of three.
 use borrow.Author.Needs.{needs}
+use Rattle.names.proofs.Placing.{head-put}
 use Rattle.names.proofs.listing.put_head.Statement.{statement}
 use Rattle.names.proofs.listing.put_head.Tie as tie
 

@@ -1,14 +1,13 @@
-use Rattle.names.proofs.Placing.{putting-size}
-use Rattle.fields.proofs.Patches.{length-patch}
+-- `put_indexes` meets its contract: the numbers that are left are those whose bytes are still to be put.
 use mathlib.Core.Path.{sym, ap, _∙_}
-use Rattle.names.proofs.Placing.{Putting, putting-start, putting-missing, putting-last, putting-more}
-use Rattle.names.proofs.Indexing.{PartAt, part-at}
-use lib.ListN.{length}
-use native.Mathlib.Omega.{arith}
 use Prim.Native.Nat.{_-_}
+use native.Mathlib.Omega.{arith}
+use lib.ListN.{length}
 use denote.Ref.{now}
-use mathlib.Core.Path.{sym, _∙_}
 use borrow.Author.Needs.{needs}
+use Rattle.fields.proofs.Patches.{length-patch}
+use Rattle.names.proofs.Placing.{putting-size, Putting, putting-start, putting-missing, putting-last, putting-more}
+use Rattle.names.proofs.Indexing.{part-at}
 use Rattle.names.proofs.listing.put_indexes.Statement.{statement}
 use Rattle.names.proofs.listing.put_indexes.Tie as tie
 

@@ -1,7 +1,8 @@
-use Rattle.names.proofs.Placing.{nothing-put}
-use Rattle.fields.proofs.Filling.{writing-short, writing-done}
+-- `put_nothing` meets its contract: the answer is one byte, which fits or is refused.
 use mathlib.Core.Path.{refl}
 use borrow.Author.Needs.{needs}
+use Rattle.fields.proofs.Filling.{writing-short, writing-done}
+use Rattle.names.proofs.Placing.{nothing-put}
 use Rattle.names.proofs.listing.put_nothing.Statement.{statement}
 use Rattle.names.proofs.listing.put_nothing.Tie as tie
 

@@ -1,7 +1,8 @@
-use Rattle.names.proofs.Placing.{length-range, range-put}
-use Rattle.fields.proofs.Filling.{writing-short, writing-done}
+-- `put_range` meets its contract: two bytes and a number in eight make the ten of the answer.
 use native.Mathlib.Omega.{arith}
 use borrow.Author.Needs.{needs}
+use Rattle.fields.proofs.Filling.{writing-short, writing-done}
+use Rattle.names.proofs.Placing.{length-range, range-put}
 use Rattle.names.proofs.listing.put_range.Statement.{statement}
 use Rattle.names.proofs.listing.put_range.Tie as tie
 

@@ -1,10 +1,9 @@
-use Rattle.fields.proofs.Patches.{length-patch}
-use mathlib.Core.Path.{refl, ap, _∙_}
-use Rattle.names.proofs.Placing.{token-plain, token-inside, token-index-room, token-indexed}
+-- `put_token` meets its contract: the end, the count and the indexes put behind them are the token's bytes.
+use mathlib.Core.Path.{refl}
 use native.Mathlib.Omega.{arith}
 use denote.Ref.{now}
-use mathlib.Core.Path.{refl}
 use borrow.Author.Needs.{needs}
+use Rattle.names.proofs.Placing.{token-plain, token-inside, token-index-room, token-indexed}
 use Rattle.names.proofs.listing.put_token.Statement.{statement}
 use Rattle.names.proofs.listing.put_token.Tie as tie
 

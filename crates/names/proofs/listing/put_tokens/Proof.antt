@@ -1,10 +1,10 @@
-use Rattle.names.proofs.Placing.{Tokening, tokening-start, tokening-within, tokening-room, tokening-next, tokening-size, tokening-end, tokening-stops}
-use lib.ListN.{length}
-use native.Mathlib.Omega.{arith}
-use Prim.Native.Nat.{_-_}
-use denote.Ref.{now}
+-- `put_tokens` meets its contract: the tokens that are left are those whose bytes are still to be put.
 use mathlib.Core.Path.{sym, _∙_}
+use Prim.Native.Nat.{_-_}
+use native.Mathlib.Omega.{arith}
+use lib.ListN.{length}
 use borrow.Author.Needs.{needs}
+use Rattle.names.proofs.Placing.{Tokening, tokening-start, tokening-within, tokening-room, tokening-next, tokening-size, tokening-end, tokening-stops}
 use Rattle.names.proofs.listing.put_tokens.Statement.{statement}
 use Rattle.names.proofs.listing.put_tokens.Tie as tie
 

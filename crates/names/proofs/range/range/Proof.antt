@@ -1,11 +1,12 @@
-use Rattle.names.proofs.Bracing.{absent, none-start, none-step, found-step, range-none}
+-- `range` meets its contract: behind the place reached no brace opens, so the first one found from the end is the last.
+use mathlib.Core.Path.{_≡_}
+use mathlib.Core.Bool.{true}
+use Prim.Native.Nat.{_≤_}
+use native.Mathlib.Omega.{arith}
 use lib.ListN.{length, drop}
 use denote.Ref.{now}
-use native.Mathlib.Omega.{arith}
-use Prim.Native.Nat.{_≤_}
-use mathlib.Core.Bool.{true}
-use mathlib.Core.Path.{_≡_, sym, _∙_}
 use borrow.Author.Needs.{needs}
+use Rattle.names.proofs.Bracing.{absent, none-start, none-step, found-step, range-none}
 use Rattle.names.proofs.range.range.Statement.{statement}
 use Rattle.names.proofs.range.range.Tie as tie
 

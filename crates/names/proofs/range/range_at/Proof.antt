@@ -1,8 +1,9 @@
-use Rattle.names.proofs.Bracing.{range-bare, range-open, range-uncounted, range-unnamed, range-good}
-use denote.Ref.{now}
-use native.Mathlib.Omega.{arith}
+-- `range_at` meets its contract: what stands behind the brace is tried in the order of the definition, one law of Bracing for each way out.
 use mathlib.Core.Path.{refl, sym, _∙_}
+use native.Mathlib.Omega.{arith}
+use denote.Ref.{now}
 use borrow.Author.Needs.{needs}
+use Rattle.names.proofs.Bracing.{range-bare, range-open, range-uncounted, range-unnamed, range-good}
 use Rattle.names.proofs.range.range_at.Statement.{statement}
 use Rattle.names.proofs.range.range_at.Tie as tie
 

@@ -1,5 +1,6 @@
-use Rattle.names.proofs.Skipping.{kept-outside, kept-inside}
+-- `is_kept` meets its contract: inside a bracket nothing is kept, outside a byte that opens none.
 use borrow.Author.Needs.{needs}
+use Rattle.names.proofs.Skipping.{kept-outside, kept-inside}
 use Rattle.names.proofs.strip.is_kept.Statement.{statement}
 use Rattle.names.proofs.strip.is_kept.Tie as tie
 

@@ -1,5 +1,5 @@
+-- `skips` meets its contract: each way out is one law on the states of the scan in Skipping.
 use Rattle.names.proofs.Skipping.{skip-bracket, skip-brace, skip-none, skip-closes, skip-goes-on}
-use borrow.Author.Needs.{needs}
 use Rattle.names.proofs.strip.skips.Statement.{statement}
 use Rattle.names.proofs.strip.skips.Tie as tie
 

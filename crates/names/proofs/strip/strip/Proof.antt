@@ -1,13 +1,12 @@
-use mathlib.Core.Path.{_≡_, sym, ap, _∙_}
+-- `strip` meets its contract: the bytes written are the first ones of the answer, and what is left of the path gives the others.
+use mathlib.Core.Path.{sym, ap, _∙_}
+use Prim.Native.Nat.{_-_}
+use native.Mathlib.Omega.{arith}
+use lib.ListN.{length}
+use borrow.Author.Needs.{needs}
 use Rattle.fields.proofs.Patches.{length-answered}
 use Rattle.fields.proofs.Filling.{writing-short, writing-done}
 use Rattle.names.proofs.Skipping.{Stripping, strip-start, strip-room, strip-more, strip-passed, strip-done}
-use Rattle.names.specs.Strip.{stripped}
-use lib.ListN.{length}
-use native.Mathlib.Omega.{arith}
-use Prim.Native.Nat.{_-_, _≤_}
-use mathlib.Core.Path.{_≡_, sym, _∙_}
-use borrow.Author.Needs.{needs}
 use Rattle.names.proofs.strip.strip.Statement.{statement}
 use Rattle.names.proofs.strip.strip.Tie as tie
 

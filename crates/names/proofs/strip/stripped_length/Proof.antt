@@ -1,8 +1,9 @@
-use Rattle.names.proofs.Skipping.{Kept, kept-start, kept-more, kept-skipped, kept-end}
-use lib.ListN.{length}
-use Prim.Native.Nat.{_-_}
+-- `stripped_length` meets its contract: what was counted and what is left of the path give the answer's length.
 use mathlib.Core.Path.{sym, _∙_}
+use Prim.Native.Nat.{_-_}
+use lib.ListN.{length}
 use borrow.Author.Needs.{needs}
+use Rattle.names.proofs.Skipping.{Kept, kept-start, kept-more, kept-skipped, kept-end}
 use Rattle.names.proofs.strip.stripped_length.Statement.{statement}
 use Rattle.names.proofs.strip.stripped_length.Tie as tie
 

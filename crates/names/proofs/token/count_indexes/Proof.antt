@@ -1,12 +1,13 @@
+-- `count_indexes` meets its contract: the numbers counted so far and those that are left give all.
+use mathlib.Core.Path.{_≡_, sym, _∙_}
+use Prim.Native.Nat.{_-_, _≤_}
+use native.Mathlib.Omega.{arith}
+use lib.ListN.{length}
 use denote.Ref.{now}
-use Rattle.names.proofs.Indexing.{PartAt, part-at, counting, indexesFrom, count-start, count-unreadable, count-last, count-more}
+use borrow.Author.Needs.{needs}
 use Rattle.names.specs.Steps.{countTold}
 use Rattle.names.specs.Name.{indexesOf}
-use lib.ListN.{length, drop}
-use native.Mathlib.Omega.{arith}
-use Prim.Native.Nat.{_-_, _≤_}
-use mathlib.Core.Path.{_≡_, refl, sym, _∙_}
-use borrow.Author.Needs.{needs}
+use Rattle.names.proofs.Indexing.{part-at, counting, indexesFrom, count-start, count-unreadable, count-last, count-more}
 use Rattle.names.proofs.token.count_indexes.Statement.{statement}
 use Rattle.names.proofs.token.count_indexes.Tie as tie
 

@@ -1,6 +1,7 @@
-use Rattle.names.proofs.Bytes.{letter-upper, letter-lower, letter-other}
+-- `is_letter` meets its contract: capitals, small letters and `_` are tried in turn, by the laws on bytes in Bytes.
 use mathlib.Core.Path.{sym, _∙_}
 use borrow.Author.Needs.{needs}
+use Rattle.names.proofs.Bytes.{letter-upper, letter-lower, letter-other}
 use Rattle.names.proofs.token.is_letter.Statement.{statement}
 use Rattle.names.proofs.token.is_letter.Tie as tie
 

@@ -1,6 +1,7 @@
-use Rattle.names.proofs.Bytes.{name-letter, name-digit}
+-- `is_name_byte` meets its contract: what is no letter has to be a digit.
 use mathlib.Core.Path.{sym, _∙_}
 use borrow.Author.Needs.{needs}
+use Rattle.names.proofs.Bytes.{name-letter, name-digit}
 use Rattle.names.proofs.token.is_name_byte.Statement.{statement}
 use Rattle.names.proofs.token.is_name_byte.Tie as tie
 

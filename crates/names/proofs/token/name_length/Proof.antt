@@ -1,12 +1,13 @@
-use Rattle.names.proofs.Piecewise.{length-none, length-other, length-start}
-use Rattle.names.specs.Name.{isNameByte, nameLength}
-use Rattle.fields.proofs.Texts.{scan-more, scan-stop, scan-end}
-use Rattle.fields.specs.Places.{scan}
-use borrow.Author.Tests.{not-true, not-false}
-use lib.ListN.{length, drop}
-use Prim.Native.Nat.{_-_}
+-- `name_length` meets its contract: behind a letter the scan of what is left ends where the whole scan does.
 use mathlib.Core.Path.{_≡_, sym, _∙_}
+use Prim.Native.Nat.{_-_}
+use lib.ListN.{length, drop}
+use borrow.Author.Tests.{not-true, not-false}
 use borrow.Author.Needs.{needs}
+use Rattle.fields.specs.Places.{scan}
+use Rattle.fields.proofs.Texts.{scan-more, scan-stop, scan-end}
+use Rattle.names.specs.Name.{isNameByte, nameLength}
+use Rattle.names.proofs.Piecewise.{length-none, length-other, length-start}
 use Rattle.names.proofs.token.name_length.Statement.{statement}
 use Rattle.names.proofs.token.name_length.Tie as tie
 

@@ -1,11 +1,12 @@
-use Rattle.names.proofs.Piecewise.{place-stop, place-more}
-use Rattle.names.specs.Pieces.{isNot}
-use Rattle.fields.proofs.Texts.{scan-end}
-use Rattle.fields.specs.Places.{scan}
-use lib.ListN.{length, drop}
-use Prim.Native.Nat.{_-_}
+-- `place_of` meets its contract: the scan of what is left ends where the whole scan does.
 use mathlib.Core.Path.{_≡_, refl, sym, _∙_}
+use Prim.Native.Nat.{_-_}
+use lib.ListN.{length, drop}
 use borrow.Author.Needs.{needs}
+use Rattle.fields.specs.Places.{scan}
+use Rattle.fields.proofs.Texts.{scan-end}
+use Rattle.names.specs.Pieces.{isNot}
+use Rattle.names.proofs.Piecewise.{place-stop, place-more}
 use Rattle.names.proofs.token.place_of.Statement.{statement}
 use Rattle.names.proofs.token.place_of.Tie as tie
 

@@ -1,9 +1,10 @@
+-- `bracket_step` meets its contract: a bracket that is open, does not read, or is followed by something stops; each way is a law in Piecewise.
+use mathlib.Core.Path.{sym, _∙_}
 use native.Mathlib.Omega.{arith}
 use lib.Seq.{length-take-le}
 use denote.Ref.{now}
-use Rattle.names.proofs.Piecewise.{bracket-open, bracket-unreadable, bracket-followed, bracket-good}
-use mathlib.Core.Path.{sym, _∙_}
 use borrow.Author.Needs.{needs}
+use Rattle.names.proofs.Piecewise.{bracket-open, bracket-unreadable, bracket-followed, bracket-good}
 use Rattle.names.proofs.walk.bracket_step.Statement.{statement}
 use Rattle.names.proofs.walk.bracket_step.Tie as tie
 

@@ -1,8 +1,8 @@
-use Rattle.names.proofs.Piecewise.{name-within}
+-- `dotted_step` meets its contract: the length of the name behind the dot tells each way, by the laws in Piecewise.
 use native.Mathlib.Omega.{arith}
 use denote.Ref.{now}
-use Rattle.names.proofs.Piecewise.{dotted-none, dotted-short, dotted-good}
 use borrow.Author.Needs.{needs}
+use Rattle.names.proofs.Piecewise.{name-within, dotted-none, dotted-short, dotted-good}
 use Rattle.names.proofs.walk.dotted_step.Statement.{statement}
 use Rattle.names.proofs.walk.dotted_step.Tie as tie
 

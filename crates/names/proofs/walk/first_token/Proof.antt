@@ -1,7 +1,8 @@
-use Rattle.names.proofs.Stepping.{first-within, first-room, first-none, first-short, first-good}
+-- `first_token` meets its contract: the first piece goes from the program part to the next dot or bracket, and has to be a name as a whole.
 use native.Mathlib.Omega.{arith}
 use denote.Ref.{now}
 use borrow.Author.Needs.{needs}
+use Rattle.names.proofs.Stepping.{first-within, first-room, first-none, first-short, first-good}
 use Rattle.names.proofs.walk.first_token.Statement.{statement}
 use Rattle.names.proofs.walk.first_token.Tie as tie
 

@@ -1,7 +1,8 @@
-use Rattle.names.proofs.Stepping.{next-end, next-within, next-piece, next-dot, next-bracket, next-other}
+-- `next_token` meets its contract: the piece goes to the next dot or bracket, and its first byte tells how it is read.
 use native.Mathlib.Omega.{arith}
 use denote.Ref.{now}
 use borrow.Author.Needs.{needs}
+use Rattle.names.proofs.Stepping.{next-end, next-within, next-piece, next-dot, next-bracket, next-other}
 use Rattle.names.proofs.walk.next_token.Statement.{statement}
 use Rattle.names.proofs.walk.next_token.Tie as tie
 

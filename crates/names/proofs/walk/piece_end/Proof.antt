@@ -1,9 +1,10 @@
-use Rattle.names.proofs.Piecewise.{end-stop, end-more, end-past}
-use Rattle.names.specs.Steps.{pieceEnd}
-use lib.ListN.{length}
-use Prim.Native.Nat.{_-_}
+-- `piece_end` meets its contract: the piece that is left ends where the whole piece does.
 use mathlib.Core.Path.{_≡_, refl, sym, _∙_}
+use Prim.Native.Nat.{_-_}
+use lib.ListN.{length}
 use borrow.Author.Needs.{needs}
+use Rattle.names.specs.Steps.{pieceEnd}
+use Rattle.names.proofs.Piecewise.{end-stop, end-more, end-past}
 use Rattle.names.proofs.walk.piece_end.Statement.{statement}
 use Rattle.names.proofs.walk.piece_end.Tie as tie
 

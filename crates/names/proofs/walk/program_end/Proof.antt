@@ -1,8 +1,9 @@
+-- `program_end` meets its contract: with `program:` in front the part goes through the first dot or to the end, and else there is none.
+use mathlib.Core.Path.{sym, _∙_}
 use lib.Seq.{length-take-le}
 use denote.Ref.{now}
-use Rattle.names.proofs.Piecewise.{program-short, program-other, program-open, program-dot}
-use mathlib.Core.Path.{sym, _∙_}
 use borrow.Author.Needs.{needs}
+use Rattle.names.proofs.Piecewise.{program-short, program-other, program-open, program-dot}
 use Rattle.names.proofs.walk.program_end.Statement.{statement}
 use Rattle.names.proofs.walk.program_end.Tie as tie
 

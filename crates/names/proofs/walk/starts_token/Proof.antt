@@ -1,5 +1,5 @@
+-- `starts_token` meets its contract: a dot, or else the test for a bracket.
 use Rattle.names.proofs.Bytes.{starts-dot, starts-other}
-use borrow.Author.Needs.{needs}
 use Rattle.names.proofs.walk.starts_token.Statement.{statement}
 use Rattle.names.proofs.walk.starts_token.Tie as tie
 
