@@ -18,7 +18,7 @@ use Rattle.fields.specs.declared.Refusal.{Refusal}
 use Rattle.fields.specs.declared.Refusal.the-variants.{FileTooLong, BadVersion, OutOfFile, NotAllowed, OverLimit}
 use Rattle.fields.specs.declared.Checked.{Checked}
 use Rattle.fields.specs.declared.Checked.the-variants.{Good, Refused}
-use Rattle.fields.proofs.Lists.{drop-next, drop-past}
+use Rattle.fields.proofs.Lists.{drop-next, drop-past, part-take}
 use Rattle.fields.proofs.Numbers.{there}
 use Rattle.fields.proofs.Chains.{told-bad, told-good}
 
@@ -113,14 +113,6 @@ module _ (s : List ℕ) (at max : ℕ) where
       text-good p e o = sym (text-all p e ∙ rw (le-ltb _ _ o))
 
 -- ---- where a text stands
-take-there : (n : ℕ) (l : List ℕ) → take (length (take n l)) l ≡ take n l
-take-there zero l = refl
-take-there (suc n) [] = refl
-take-there (suc n) (b ∷ r) = ap (λ x. b ∷ x) (take-there n r)
-
-part-take : (s : List ℕ) (at n : ℕ) → part at (at + length (take n (drop at s))) s ≡ take n (drop at s)
-part-take s at n = let z : at + length (take n (drop at s)) - at ≡ length (take n (drop at s)) = omega arith in rw z (take-there n (drop at s))
-
 pub at-missing : (s : List ℕ) (at : ℕ) → length s ≤ at → (part 0 0 s ≡ textOf (drop at s)) × (0 ≤ 0) × (0 ≤ length s)
 unfolding textOf
 at-missing s at h = (rw (drop-past s at h) refl, omega arith, omega arith)

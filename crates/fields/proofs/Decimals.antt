@@ -1,10 +1,10 @@
 -- Decimal numbers in texts: the laws of the loops that read and write them, and of the digits that a text starts with.
 -- Then decimals both ways: what is written for a number reads as that number, in digits alone, at most 20, none of them a leading zero.
 -- Assumes nothing.
-use mathlib.Core.Path.{_≡_, refl, sym, ap, ap₂, _∙_}
+use mathlib.Core.Path.{_≡_, refl, sym, ap, ap₂, subst, _∙_}
 use mathlib.Core.Bool.{Bool, true, false, cond, _&&_, false≢true}
 use mathlib.Core.List.{List, [], _∷_}
-use mathlib.Core.Option.{Option, none, some}
+use mathlib.Core.Option.{Option, none, some, Option·none-ne-some}
 use Prim.Native.Nat.{ℕ, zero, suc, _+_, _-_, _*_, _/_, _%_, _^_, _≤_, _<_}
 use native.Mathlib.Nat.{pow-suc, not-suc-le-zero}
 use native.Mathlib.Omega.{arith}
@@ -12,12 +12,14 @@ use lib.ListN.{length, take, drop, getD, set, length-drop, length-set}
 use lib.Seq.{drop-cons, getD-set-same, drop-set-lt}
 use lib.Dec.{ltb}
 use borrow.Author.Tests.{lt-ltb, le-ltb, ltb-true, ltb-false}
-use Rattle.fields.specs.Text.{Text, lowered}
+use Rattle.fields.specs.Text.{Text, between, lower, lowered}
 use Rattle.fields.specs.Decimal.{isDigit, allDigits, valueFrom, leadingDigits, numberEnd, numeralOf, digitsBefore, decimal}
+use Rattle.fields.specs.Format.{All}
 use Rattle.fields.specs.Places.{scan, numberTold}
 use Rattle.fields.specs.declared.Numeral.the-variants.{Value, Missing}
 use Rattle.fields.proofs.Lists.{drop-next, drop-past, cond-elim}
-use Rattle.fields.proofs.Texts.{between-inside, between-below, between-is, lower-other}
+use Rattle.fields.proofs.Texts.{between-inside, between-below, between-above, between-is, lower-other, lower-cases, Caseless}
+use Rattle.fields.proofs.Scans.{Passes}
 
 -- ---- digits
 
@@ -51,6 +53,23 @@ lowered-digits (b ∷ r) e =
     let p = digits-first b r e in
     let h = digit-range b p in
     ap₂ (λ (x : ℕ) (l : Text). x ∷ l) (lower-other b (between-below 65 90 b (omega arith))) (lowered-digits r (sym (digits-more b r p) ∙ e))
+
+pub digits-each : (t : Text) → allDigits t ≡ true → All (Passes isDigit) t
+digits-each [] e = tt
+digits-each (b ∷ r) e = let p = digits-first b r e in (p, digits-each r (sym (digits-more b r p) ∙ e))
+
+-- a digit has no case
+pub digit-lower : Caseless isDigit
+unfolding isDigit
+digit-lower b =
+    lower-cases (between 48 57 (lower b) ≡ between 48 57 b) b
+    (λ p q e. ap (between 48 57) e ∙ between-above 48 57 (b + 32) (omega arith) ∙ sym (between-above 48 57 b (omega arith)))
+    (λ e. ap (between 48 57) e)
+
+digits-lowered : (t : Text) → allDigits (lowered t) ≡ allDigits t
+unfolding lowered allDigits
+digits-lowered [] = refl
+digits-lowered (b ∷ r) = rw (digit-lower b, digits-lowered r)
 
 -- ---- the digits that a text starts with
 
@@ -92,6 +111,16 @@ pub told-value : (o : Option ℕ) (n : ℕ) → o ≡ some n → Value n ≡ num
 unfolding numberTold
 told-value o n e = rw e
 
+pub missing-is : (o : Option ℕ) → numberTold o ≡ Missing → o ≡ none
+unfolding numberTold
+missing-is none e = refl
+missing-is (some n) e = let z : _≡_ {A = ℕ} 0 1 = cc in absurd (omega arith)
+
+pub value-is : (o : Option ℕ) (n : ℕ) → numberTold o ≡ Value n → o ≡ some n
+unfolding numberTold
+value-is none n e = let z : _≡_ {A = ℕ} 0 1 = cc in absurd (omega arith)
+value-is (some m) n e = let z : m ≡ n = cc in ap some z
+
 pub numeral-empty : (s : Text) → length s ≡ 0 → numeralOf s ≡ none
 unfolding numeralOf
 numeral-empty [] e = refl
@@ -102,6 +131,39 @@ unfolding numeralFrom numeralOf
 numeral-start [] n = absurd (n refl)
 numeral-start (b ∷ r) n = refl
 
+-- ---- what a numeral is
+numeral-is : (t : Text) (n : ℕ) → numeralOf t ≡ some n → (allDigits t ≡ true) × (valueFrom 0 t ≡ n) × (n < numberEnd)
+unfolding numeralOf
+numeral-is [] n e = absurd (Option·none-ne-some n e)
+numeral-is (b ∷ r) n e = go (allDigits (b ∷ r)) (ltb (valueFrom 0 (b ∷ r)) numberEnd) refl e
+  where
+    go : (x y : Bool) → ltb (valueFrom 0 (b ∷ r)) numberEnd ≡ y → cond (x && y) (some (valueFrom 0 (b ∷ r))) none ≡ some n
+        → (x ≡ true) × (valueFrom 0 (b ∷ r) ≡ n) × (n < numberEnd)
+    go false y q f = absurd (Option·none-ne-some n f)
+    go true false q f = absurd (Option·none-ne-some n f)
+    go true true q f =
+        let v : valueFrom 0 (b ∷ r) ≡ n = cc in
+        (refl, v, subst (λ m. m < numberEnd) v (ltb-true (valueFrom 0 (b ∷ r)) numberEnd q))
+
+pub numeral-digits : (t : Text) (n : ℕ) → numeralOf t ≡ some n → allDigits t ≡ true
+numeral-digits t n e = numeral-is t n e .0
+
+pub numeral-value : (t : Text) (n : ℕ) → numeralOf t ≡ some n → valueFrom 0 t ≡ n
+numeral-value t n e = numeral-is t n e .1
+
+pub numeral-fits : (t : Text) (n : ℕ) → numeralOf t ≡ some n → n < numberEnd
+numeral-fits t n e = numeral-is t n e .2
+
+pub numeral-lowered : (t : Text) → numeralOf (lowered t) ≡ numeralOf t
+unfolding lowered numeralOf
+numeral-lowered [] = refl
+numeral-lowered (b ∷ r) = go (allDigits (b ∷ r)) refl
+  where
+    go : (x : Bool) → allDigits (b ∷ r) ≡ x → numeralOf (lower b ∷ lowered r) ≡ numeralOf (b ∷ r)
+    go true e = ap numeralOf (lowered-digits (b ∷ r) e)
+    go false e = rw (digits-lowered (b ∷ r), e)
+
+-- ---- the loop
 value-grows : (t : Text) (n : ℕ) → n ≤ valueFrom n t
 unfolding valueFrom
 value-grows [] n = omega arith

@@ -1,20 +1,21 @@
 -- A buffer that an answer is written into piece by piece, from the front on: what was written so far, and what is left to write.
 -- Every writer of a file carries `Filling` through its loops, and puts a piece by `filling-next`.
 -- Assumes nothing.
-use mathlib.Core.Path.{_≡_, refl, sym, ap, ap₂, _∙_}
-use mathlib.Core.List.{List, [], _∷_, _++_, append-nil}
-use Prim.Native.Nat.{ℕ, zero, suc, _+_, _-_, _*_, _/_, _%_, _^_, _≤_, _<_}
+use mathlib.Core.Path.{_≡_, refl, sym, ap, subst, _∙_}
+use mathlib.Core.List.{List, [], _∷_, _++_}
+use Prim.Native.Nat.{ℕ, _+_, _-_, _%_, _^_, _≤_, _<_}
 use native.Mathlib.Nat.{mod-eq-of-lt, div-one}
 use native.Mathlib.Omega.{arith}
-use lib.ListN.{length, take, drop, length-append, length-take, length-drop, take-append-drop}
+use lib.ListN.{length, take, drop, set, length-append, length-drop, take-append-drop}
 use lib.Seq.{drop-drop, take-add, take-all, take-append-seam, drop-append-seam, length-take-le}
-use Rattle.fields.specs.Fields.{digits}
 use borrow.Author.Tests.{lt-ltb, le-ltb}
+use Rattle.fields.specs.Fields.{digits}
 use Rattle.fields.specs.Format.{fine}
 use Rattle.fields.specs.Writing.{patch, answered, writing, buffer}
 use Rattle.fields.specs.declared.Refusal.the-variants.{OutputTooShort}
 use Rattle.fields.specs.declared.Written.the-variants.{Done, Refused}
-use Rattle.fields.proofs.Patches.{answered-more, length-answered, patch-answered}
+use Rattle.fields.proofs.Spelled.{length-digits}
+use Rattle.fields.proofs.Patches.{answered-more, length-answered, patch-answered, set-patch}
 
 -- `out` is `old` with the first `to` bytes of `file` written over it; `rest` is left to write
 pub record Filling (file old out : List ℕ) (to : ℕ) (rest : List ℕ) : Type 0 where
@@ -54,6 +55,13 @@ module _ (file old out : List ℕ) (to : ℕ) where
         written = ap (λ n. patch out n t) (sym l) ∙ answered-more old (take to file) t out (omega arith) (f .written) ∙ ap (λ x. answered x old) (sym k);
       }
 
+  -- the next byte, set where it belongs
+  pub filling-set : (b : ℕ) (rest : List ℕ) → Filling file old out to (b ∷ rest) → Filling file old (set out to b) (to + 1) rest
+  filling-set b rest f =
+      let m = filling-room (b ∷ rest) f in
+      let t = filling-next (b ∷ []) rest f in
+      subst (λ x. Filling file old x (to + 1) rest) (sym (set-patch out to b (omega arith))) t
+
   pub filling-end : Filling file old out to [] → out ≡ answered file old
   filling-end f =
       let d = length-drop to file in
@@ -84,6 +92,19 @@ digits-one v h = let m : v % 256 ≡ v = mod-eq-of-lt h in rw (m, div-one v)
 
 pub digits-fit : (w v : ℕ) → v < 256 ^ w → digits w (v % 256 ^ w) ≡ digits w v
 digits-fit w v h = ap (digits w) (mod-eq-of-lt h)
+
+-- a byte put behind what was written
+pub filling-byte : (file old out out′ : List ℕ) (to v : ℕ) (rest : List ℕ) → v < 256 → Filling file old out to (v ∷ rest) → out′ ≡ patch out to (digits 1 (v % 256 ^ 1)) → Filling file old out′ (to + 1) rest
+filling-byte file old out out′ to v rest h f e =
+    let n : Filling file old (patch out to (v ∷ [])) (to + 1) rest = filling-next file old out to (v ∷ []) rest f in
+    subst (λ x. Filling file old x (to + 1) rest) (sym (e ∙ ap (patch out to) (digits-one v h))) n
+
+-- a number of a width put behind what was written
+pub filling-number : (file old out out′ : List ℕ) (to w v : ℕ) (rest : List ℕ) → v < 256 ^ w → Filling file old out to (digits w v ++ rest) → out′ ≡ patch out to (digits w (v % 256 ^ w)) → Filling file old out′ (to + w) rest
+filling-number file old out out′ to w v rest h f e =
+    let n = filling-next file old out to (digits w v) rest f in
+    let m : Filling file old (patch out to (digits w v)) (to + w) rest = subst (λ k. Filling file old (patch out to (digits w v)) (to + k) rest) (length-digits w v) n in
+    subst (λ x. Filling file old x (to + w) rest) (sym (e ∙ ap (patch out to) (digits-fit w v h))) m
 
 -- ---- what a call that writes answers, and what it leaves in the buffer
 module _ (file old : List ℕ) (n : ℕ) (e : n ≡ length file) where

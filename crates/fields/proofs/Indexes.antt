@@ -2,10 +2,10 @@
 -- There is one law for each way through the code of a function, and it takes the numbers that the code holds there.
 -- Assumes nothing.
 use mathlib.Core.Path.{_≡_, refl, sym, ap, _∙_}
-use mathlib.Core.Bool.{Bool, true, false, cond, _&&_}
+use mathlib.Core.Bool.{Bool, true, false, cond}
 use mathlib.Core.List.{List, [], _∷_}
 use mathlib.Core.Option.{none, some}
-use Prim.Native.Nat.{ℕ, zero, suc, _+_, _-_, _≤_, _<_}
+use Prim.Native.Nat.{ℕ, suc, _+_, _-_, _≤_, _<_}
 use native.Mathlib.Omega.{arith}
 use lib.ListN.{length, take, drop, getD, length-take}
 use lib.Dec.{ltb, eqb}
@@ -20,8 +20,8 @@ use Rattle.fields.specs.declared.Refusal.the-variants.{IndexTooLarge}
 use Rattle.fields.specs.declared.Checked.{Checked}
 use Rattle.fields.specs.declared.Checked.the-variants.{Good, Refused}
 use Rattle.fields.specs.declared.Numeral.the-variants.{Value, Missing}
-use Rattle.fields.proofs.Lists.{drop-next, drop-past}
-use Rattle.fields.proofs.Decimals.{digits-end-is, leading-is, leading-digits}
+use Rattle.fields.proofs.Lists.{drop-take, drop-next, drop-past}
+use Rattle.fields.proofs.Decimals.{digits-end-is, leading-is, leading-digits, value-is, numeral-value}
 use Rattle.fields.proofs.Numbers.{there}
 use Rattle.fields.proofs.Chains.{told-bad, told-good}
 use Rattle.fields.proofs.Checks.{text-missing, at-there}
@@ -42,15 +42,6 @@ module _ (b : ℕ) where
     opens-brace m = rw (ne-eqb _ _ n, ne-eqb _ _ m)
 
 -- ---- whether digits spell a number above the limit
-numeral-value : (d : Text) (v : ℕ) → numberTold (numeralOf d) ≡ Value v → valueFrom 0 d ≡ v
-unfolding numeralOf numberTold
-numeral-value [] v e = let z : _≡_ {A = ℕ} 0 1 = cc in absurd (omega arith)
-numeral-value (b ∷ r) v e = go (allDigits (b ∷ r) && ltb (valueFrom 0 (b ∷ r)) numberEnd) e
-  where
-    go : (t : Bool) → numberTold (cond t (some (valueFrom 0 (b ∷ r))) none) ≡ Value v → valueFrom 0 (b ∷ r) ≡ v
-    go true h = cc
-    go false h = let z : _≡_ {A = ℕ} 0 1 = cc in absurd (omega arith)
-
 numeral-missing : (d : Text) → 0 < length d → allDigits d ≡ true → numberTold (numeralOf d) ≡ Missing → numberEnd ≤ valueFrom 0 d
 unfolding numeralOf numberTold
 numeral-missing [] h a e = absurd (omega arith)
@@ -79,16 +70,12 @@ module _ (t : Text) (at most e : ℕ) (q : e ≡ scan isDigit (drop at t) at) wh
   pub over-none : e ≤ at → false ≡ digitsAbove most (drop at t)
   unfolding digitsAbove valueFrom
   over-none h =
-      let n : leadingDigits (drop at t) ≡ [] = empty (leadingDigits (drop at t)) (let d = digits-end-is t at in omega arith) in
+      let n : leadingDigits (drop at t) ≡ [] = drop-past (leadingDigits (drop at t)) 0 (let d = digits-end-is t at in omega arith) in
       rw (n, le-ltb most 0 (omega arith))
-    where
-      empty : (l : List ℕ) → length l ≤ 0 → l ≡ []
-      empty [] z = refl
-      empty (b ∷ r) z = let y : ⊥ = omega arith in absurd y
 
   pub over-value : (v : ℕ) → numberTold (numeralOf (part at e t)) ≡ Value v → ltb most v ≡ digitsAbove most (drop at t)
   unfolding digitsAbove
-  over-value v h = ap (ltb most) (sym (numeral-value (leadingDigits (drop at t)) v (rw digits-part at h)))
+  over-value v h = ap (ltb most) (sym (numeral-value (leadingDigits (drop at t)) v (value-is (numeralOf (leadingDigits (drop at t))) v (rw digits-part at h))))
 
   pub over-missing : at < e → most < numberEnd → numberTold (numeralOf (part at e t)) ≡ Missing → true ≡ digitsAbove most (drop at t)
   unfolding digitsAbove
@@ -122,17 +109,6 @@ module _ (most : ℕ) (t : List ℕ) (i : ℕ) where
       pub index-large : digitsAbove most (drop (i + 1) t) ≡ true → indexed most (drop i t) i ≡ Refused (IndexTooLarge (i + 1))
       unfolding indexed indexCheck told
       index-large a = rw (drop-next t i h, o, a)
-
--- a file that is cut at its end first leaves the same part
-drop-take : (a e : ℕ) (s : List ℕ) → drop a (take e s) ≡ part a e s
-drop-take zero e s = let z : e - 0 ≡ e = omega arith in rw z
-drop-take (suc a) zero s = let z : 0 - suc a ≡ 0 = omega arith in rw z
-drop-take (suc a) (suc e) [] = sym (nothing (suc e - suc a))
-  where
-    nothing : (n : ℕ) → take {A = ℕ} n [] ≡ []
-    nothing zero = refl
-    nothing (suc n) = refl
-drop-take (suc a) (suc e) (b ∷ r) = let z : suc e - suc a ≡ e - a = omega arith in rw z (drop-take a e r)
 
 -- ---- names whose indexes have a limit
 module _ (s : List ℕ) (at max : ℕ) where

@@ -6,12 +6,12 @@ use mathlib.Core.Bool.{Bool, true, false}
 use mathlib.Core.List.{List, [], _∷_, _++_, append-assoc}
 use Prim.Native.Nat.{ℕ, zero, suc, _+_, _-_, _*_, _/_, _%_, _^_, _≤_, _<_}
 use native.Mathlib.Nat.{pow-succ', mod-lt, mod-eq-of-lt, div-one, suc-add, zero-add}
-use native.Mathlib.Numerals.{add-one}
 use native.Mathlib.Omega.{arith}
-use lib.Arith.{mod-mul, digits-div, digits-mod}
+use native.Mathlib.Numerals.{add-one}
 use lib.ListN.{length, take, drop, getD, set, length-append, length-drop, length-set}
 use lib.Seq.{paste, paste-zero, paste-suc, take-all, take-length, take-append-seam, drop-append-add, drop-drop, length-take-le}
 use lib.Dec.{leb}
+use lib.Arith.{mod-mul, digits-div, digits-mod}
 use borrow.Author.Tests.{le-leb, lt-leb, leb-true, leb-false}
 use Rattle.fields.specs.Fields.{digits}
 use Rattle.fields.specs.Writing.{patch, answered}
@@ -102,6 +102,14 @@ module _ (d : List ℕ) (at : ℕ) (t out : List ℕ) (i : ℕ) (p : Copied d at
       let e : i ≡ length t = omega (arith, p .within) in
       let q : out ≡ paste d at t (length t) = rw e at (p .bytes) in
       q ∙ ap (λ (x : List ℕ). take at d ++ x ++ drop (at + length t) d) (take-length t) ∙ sym (patch-fits d at t (p .room))
+
+-- a byte that is set is put
+pub set-patch : (d : List ℕ) (at b : ℕ) → at < length d → set d at b ≡ patch d at (b ∷ [])
+set-patch d at b h =
+    let t : List ℕ = b ∷ [] in
+    let z : at ≡ at + 0 = omega arith in
+    let c = copied-more d at t d 0 (copied-start d at t (omega arith)) (omega arith) in
+    ap (λ (i : ℕ). set d i b) z ∙ copied-end d at t (set d (at + 0) b) (0 + 1) c (omega arith)
 
 -- ---- what is put
 

@@ -5,9 +5,9 @@ use mathlib.Core.Path.{_≡_, refl, sym, ap, ap₂, _∙_}
 use mathlib.Core.Bool.{Bool, true, false, cond, _&&_, true≢false, false≢true}
 use mathlib.Core.List.{List, [], _∷_, _++_}
 use mathlib.Core.Logic.{_⊎_, inl, inr, ⊎-elim}
-use Prim.Native.Nat.{ℕ, suc, _+_, _≤_, _<_}
+use Prim.Native.Nat.{ℕ, zero, suc, _+_, _≤_, _<_}
 use native.Mathlib.Omega.{arith}
-use lib.ListN.{length, drop, getD}
+use lib.ListN.{length, take, drop, getD}
 use lib.Dec.{leb, ltb, eqb}
 use borrow.Author.Tests.{leb-true, ltb-true, ltb-false, eqb-true, eqb-false, le-leb, lt-leb, lt-ltb, eq-eqb, ne-eqb}
 use Rattle.fields.specs.Text.{between, lower, lowered, same, alike, earlier}
@@ -52,14 +52,30 @@ pub lower-other : (b : ℕ) → between 65 90 b ≡ false → lower b ≡ b
 unfolding lower
 lower-other b e = rw e
 
-pub lower-lower : (b : ℕ) → lower (lower b) ≡ lower b
-lower-lower b = split (between 65 90 b) refl
+-- a capital and its small letter, or the byte itself
+pub lower-cases : (P : Type 0) (b : ℕ) → (65 ≤ b → b ≤ 90 → lower b ≡ b + 32 → P) → (lower b ≡ b → P) → P
+lower-cases P b f g = split (between 65 90 b) refl
   where
-    split : (t : Bool) → between 65 90 b ≡ t → lower (lower b) ≡ lower b
-    split true e =
-        let h = between-is 65 90 b e in
-        ap lower (lower-upper b e) ∙ lower-other (b + 32) (between-above 65 90 (b + 32) (omega arith)) ∙ sym (lower-upper b e)
-    split false e = ap lower (lower-other b e)
+    split : (t : Bool) → between 65 90 b ≡ t → P
+    split true e = let h = between-is 65 90 b e in f (h .0) (h .1) (lower-upper b e)
+    split false e = g (lower-other b e)
+
+pub lower-lower : (b : ℕ) → lower (lower b) ≡ lower b
+lower-lower b =
+    lower-cases (lower (lower b) ≡ lower b) b
+    (λ p q e. ap lower e ∙ lower-other (b + 32) (between-above 65 90 (b + 32) (omega arith)) ∙ sym e)
+    (λ e. ap lower e)
+
+-- a test that does not see the case of a byte
+abbrev pub Caseless : (ℕ → Bool) → Type 0
+Caseless f = (b : ℕ) → f (lower b) ≡ f b
+
+-- equality with a byte that is no letter
+pub eqb-lower : (k : ℕ) → (65 ≤ k → k ≤ 90 → ⊥) → (97 ≤ k → k ≤ 122 → ⊥) → (b : ℕ) → eqb (lower b) k ≡ eqb b k
+eqb-lower k h j b =
+    lower-cases (eqb (lower b) k ≡ eqb b k) b
+    (λ p q e. ap (λ x. eqb x k) e ∙ ne-eqb (b + 32) k (λ r. j (omega arith) (omega arith)) ∙ sym (ne-eqb b k (λ r. h (omega arith) (omega arith))))
+    (λ e. ap (λ x. eqb x k) e)
 
 -- ---- scans
 
@@ -130,6 +146,18 @@ pub lowered-lowered : (s : List ℕ) → lowered (lowered s) ≡ lowered s
 unfolding lowered
 lowered-lowered [] = refl
 lowered-lowered (b ∷ r) = ap₂ (λ (h : ℕ) (l : List ℕ). h ∷ l) (lower-lower b) (lowered-lowered r)
+
+pub take-lowered : (n : ℕ) (s : List ℕ) → take n (lowered s) ≡ lowered (take n s)
+unfolding lowered
+take-lowered zero s = refl
+take-lowered (suc n) [] = refl
+take-lowered (suc n) (b ∷ r) = ap (λ (l : List ℕ). lower b ∷ l) (take-lowered n r)
+
+pub drop-lowered : (n : ℕ) (s : List ℕ) → drop n (lowered s) ≡ lowered (drop n s)
+unfolding lowered
+drop-lowered zero s = refl
+drop-lowered (suc n) [] = refl
+drop-lowered (suc n) (b ∷ r) = drop-lowered n r
 
 pub alike-is : (s t : List ℕ) → alike s t ≡ true → lowered s ≡ lowered t
 unfolding alike

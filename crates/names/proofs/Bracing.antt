@@ -1,60 +1,42 @@
 -- The search for the last brace of a name from its end on, and what stands behind it.
 -- Assumes nothing.
-use mathlib.Core.Path.{_≡_, refl, sym, ap, _∙_}
-use mathlib.Core.Bool.{Bool, true, false, cond, false≢true}
-use mathlib.Core.List.{[], _∷_}
+use mathlib.Core.Path.{_≡_, sym, ap, _∙_}
+use mathlib.Core.Bool.{cond}
 use mathlib.Core.Option.{Option, none, some}
 use Prim.Native.Nat.{ℕ, _+_, _-_, _≤_, _<_}
 use native.Mathlib.Omega.{arith}
 use lib.ListN.{length, take, drop, getD, length-take, length-drop, take-append-drop}
 use lib.Seq.{getD-drop}
-use lib.Dec.{eqb, ltb}
+use lib.Dec.{ltb}
 use borrow.Author.Tests.{lt-ltb, le-ltb, eq-eqb, ne-eqb}
 use Rattle.fields.specs.Text.{Text}
 use Rattle.fields.specs.Decimal.{numeralOf}
 use Rattle.fields.specs.Places.{part, numberTold}
 use Rattle.fields.specs.declared.Numeral.the-variants.{Value, Missing}
+use Rattle.fields.proofs.Decimals.{missing-is, value-is}
 use Rattle.fields.proofs.Lists.{drop-next, drop-past}
 use Rattle.names.specs.Pieces.{andThen}
 use Rattle.names.specs.Range.{lastFrom, beforeBrace, rangeAt, rangeOf}
 use Rattle.names.specs.Told.{rangeTold}
 use Rattle.names.specs.declared.Ranged.{Ranged}
 use Rattle.names.specs.declared.Ranged.the-variants.{Of, Plain}
-use Rattle.names.proofs.Indexing.{told-missing, told-value}
-use Rattle.names.proofs.Ranges.{last-append}
+use Rattle.names.proofs.Ranges.{last-append, Absent, last-absent}
 
 -- ---- the last brace
--- no byte `b` stands in a text
-unfoldable pub absent : ℕ → Text → Bool
-absent b [] = true
-absent b (c ∷ r) = let e = absent b r in cond (eqb c b) false e
-
-absent-last : (b : ℕ) (l : Text) (i : ℕ) (p : Option ℕ) → absent b l ≡ true → lastFrom b l i p ≡ p
-unfolding absent lastFrom
-absent-last b [] i p e = refl
-absent-last b (c ∷ r) i p e = go (eqb c b) refl (absent-last b r (i + 1)) e
-  where
-    go : (t : Bool) → eqb c b ≡ t → ((p : Option ℕ) → absent b r ≡ true → lastFrom b r (i + 1) p ≡ p) → cond t false (absent b r) ≡ true
-        → lastFrom b r (i + 1) (cond (eqb c b) (some i) p) ≡ p
-    go true q h e = absurd (false≢true e)
-    go false q h e = rw q (h p e)
-
-pub none-start : (s : Text) → absent 123 (drop (length s) s) ≡ true
-unfolding absent
-none-start s = rw (drop-past s (length s) (omega arith))
+pub none-start : (s : Text) → Absent 123 (drop (length s) s)
+none-start s = rw (drop-past s (length s) (omega arith)) tt
 
 module _ (s : Text) (i : ℕ) (h : i < length s) where
-  pub none-more : (getD s i 0 ≡ 123 → ⊥) → absent 123 (drop (i + 1) s) ≡ true → absent 123 (drop i s) ≡ true
-  unfolding absent
-  none-more e a = rw (drop-next s i h, ne-eqb (getD s i 0) 123 e) a
+  pub none-more : (getD s i 0 ≡ 123 → ⊥) → Absent 123 (drop (i + 1) s) → Absent 123 (drop i s)
+  none-more e a = rw (drop-next s i h) (ne-eqb (getD s i 0) 123 e, a)
 
-  last-there : (p : Option ℕ) → getD s i 0 ≡ 123 → absent 123 (drop (i + 1) s) ≡ true → lastFrom 123 (drop i s) i p ≡ some i
+  last-there : (p : Option ℕ) → getD s i 0 ≡ 123 → Absent 123 (drop (i + 1) s) → lastFrom 123 (drop i s) i p ≡ some i
   unfolding lastFrom
   last-there p e a =
       ap (λ l. lastFrom 123 l i p) (drop-next s i h) ∙ ap (λ t. lastFrom 123 (drop (i + 1) s) (i + 1) (cond t (some i) p)) (eq-eqb (getD s i 0) 123 e)
-      ∙ absent-last 123 (drop (i + 1) s) (i + 1) (some i) a
+      ∙ last-absent 123 (drop (i + 1) s) (i + 1) (some i) a
 
-  last-is : getD s i 0 ≡ 123 → absent 123 (drop (i + 1) s) ≡ true → lastFrom 123 s 0 none ≡ some i
+  last-is : getD s i 0 ≡ 123 → Absent 123 (drop (i + 1) s) → lastFrom 123 s 0 none ≡ some i
   last-is e a =
       let l = length-take i s in
       let n : 0 + length (take i s) ≡ i = omega arith in
@@ -62,13 +44,13 @@ module _ (s : Text) (i : ℕ) (h : i < length s) where
       ∙ ap (λ m. lastFrom 123 (drop i s) m (lastFrom 123 (take i s) 0 none)) n
       ∙ last-there (lastFrom 123 (take i s) 0 none) e a
 
-  pub range-found : (r : Ranged) → getD s i 0 ≡ 123 → absent 123 (drop (i + 1) s) ≡ true → r ≡ rangeTold (rangeAt s i) → r ≡ rangeTold (rangeOf s)
+  pub range-found : (r : Ranged) → getD s i 0 ≡ 123 → Absent 123 (drop (i + 1) s) → r ≡ rangeTold (rangeAt s i) → r ≡ rangeTold (rangeOf s)
   unfolding rangeOf andThen
   range-found r e a q = q ∙ sym (rw (last-is e a))
 
-pub range-none : (s : Text) (i : ℕ) → i ≤ 0 → absent 123 (drop i s) ≡ true → Plain ≡ rangeTold (rangeOf s)
+pub range-none : (s : Text) (i : ℕ) → i ≤ 0 → Absent 123 (drop i s) → Plain ≡ rangeTold (rangeOf s)
 unfolding rangeOf andThen rangeTold
-range-none s i h a = let z : i ≡ 0 = omega arith in let b : absent 123 s ≡ true = rw z at a in rw (absent-last 123 s 0 none b)
+range-none s i h a = let z : i ≡ 0 = omega arith in let b : Absent 123 s = rw z at a in rw (last-absent 123 s 0 none b)
 
 -- ---- what stands behind it
 module _ (s : Text) (i : ℕ) where
@@ -95,26 +77,26 @@ module _ (s : Text) (i : ℕ) where
 
       pub range-uncounted : numberTold (numeralOf (part (i + 1) last s)) ≡ Missing → Plain ≡ rangeTold (rangeAt s i)
       unfolding andThen rangeTold
-      range-uncounted m = sym (ap rangeTold behind-is ∙ rw (told-missing (numeralOf (part (i + 1) last s)) m))
+      range-uncounted m = sym (ap rangeTold behind-is ∙ rw (missing-is (numeralOf (part (i + 1) last s)) m))
 
       pub range-unnamed : (n : ℕ) → numberTold (numeralOf (part (i + 1) last s)) ≡ Value n → i ≡ 0 → Plain ≡ rangeTold (rangeAt s i)
       unfolding andThen rangeTold
-      range-unnamed n m z = sym (ap rangeTold behind-is ∙ rw (told-value (numeralOf (part (i + 1) last s)) n m, le-ltb 0 i (omega arith)))
+      range-unnamed n m z = sym (ap rangeTold behind-is ∙ rw (value-is (numeralOf (part (i + 1) last s)) n m, le-ltb 0 i (omega arith)))
 
       pub range-good : (n : ℕ) → numberTold (numeralOf (part (i + 1) last s)) ≡ Value n → (i ≡ 0 → ⊥) → Of i n ≡ rangeTold (rangeAt s i)
       unfolding andThen rangeTold
       range-good n m z =
           let l : length (take i s) ≡ i = (let k = length-take i s in omega arith) in
           let p : 0 < i = omega arith in
-          sym (ap rangeTold behind-is ∙ rw (told-value (numeralOf (part (i + 1) last s)) n m, lt-ltb 0 i p, l))
+          sym (ap rangeTold behind-is ∙ rw (value-is (numeralOf (part (i + 1) last s)) n m, lt-ltb 0 i p, l))
 
 -- ---- one step back
 module _ (s : Text) (i : ℕ) (p : 0 < i) (h : i ≤ length s) where
   back : i - 1 + 1 ≡ i
   back = omega arith
 
-  pub none-step : (getD s (i - 1) 0 ≡ 123 → ⊥) → absent 123 (drop i s) ≡ true → absent 123 (drop (i - 1) s) ≡ true
+  pub none-step : (getD s (i - 1) 0 ≡ 123 → ⊥) → Absent 123 (drop i s) → Absent 123 (drop (i - 1) s)
   none-step e a = none-more s (i - 1) (omega arith) e (rw back a)
 
-  pub found-step : (r : Ranged) → getD s (i - 1) 0 ≡ 123 → absent 123 (drop i s) ≡ true → r ≡ rangeTold (rangeAt s (i - 1)) → r ≡ rangeTold (rangeOf s)
+  pub found-step : (r : Ranged) → getD s (i - 1) 0 ≡ 123 → Absent 123 (drop i s) → r ≡ rangeTold (rangeAt s (i - 1)) → r ≡ rangeTold (rangeOf s)
   found-step r e a q = range-found s (i - 1) (omega arith) r e (rw back a) q

@@ -8,8 +8,8 @@ use mathlib.Core.Option.{some}
 use Prim.Native.Nat.{ℕ}
 use Rattle.fields.specs.Text.{Text}
 use Rattle.fields.specs.Decimal.{numeralOf}
+use Rattle.fields.proofs.Lists.{all-append}
 use Rattle.names.specs.Name.{Key, member, item, Token, tokens, isName, indexKey, readName, spelling, bracket}
-use Rattle.names.proofs.Cutting.{all-append}
 use Rattle.names.proofs.Tokens.{numeral-index, member-reads, indexes-read, Later, later}
 use Rattle.names.proofs.Spelling.{LaterToken, Names, names-read, reads-names, spelling-append, spelling-one}
 

@@ -10,9 +10,13 @@ use lib.ListN.{length, take, drop}
 use lib.Dec.{eqb, ltb}
 use Rattle.fields.specs.Text.{Text, lowered, alike}
 use Rattle.fields.specs.Decimal.{numeralOf}
+use Rattle.fields.proofs.Lists.{at-cond}
+use Rattle.fields.proofs.Texts.{lowered-append, lowered-lowered, length-lowered, take-lowered, drop-lowered}
+use Rattle.fields.proofs.Scans.{scan-lowered}
+use Rattle.fields.proofs.Decimals.{numeral-lowered}
 use Rattle.names.specs.Pieces.{allOf, parts, pieces}
 use Rattle.names.specs.Name.{member, Token, Reading, tokens, stops, Piece, reads, stopsAt, isNameByte, nameLength, isName, dotted, indexesOf, indexKey, indexed, isInside, insideLength, bracketed, laterToken, before, following, laterTokens, allTokens, inProgram, isUndotted, programLength, startsToken, readName, lowerKey, lowerToken, lowerReading}
-use Rattle.names.proofs.Casing.{at-cond, dot-lower, bracket-lower, letter-lower, name-byte-lower, starts-lower, inside-lower, undotted-lower, comma-lower, lowered-append, lowered-lowered, length-lowered, take-lowered, drop-lowered, scan-lowered, numeral-lowered}
+use Rattle.names.proofs.Casing.{dot-lower, bracket-lower, letter-lower, name-byte-lower, starts-lower, inside-lower, undotted-lower, comma-lower}
 use Rattle.names.proofs.Cutting.{pieces-lowered, parts-lowered}
 
 -- ---- pieces

@@ -6,12 +6,13 @@ use mathlib.Core.List.{List, [], _∷_, _++_, map}
 use mathlib.Core.Option.{Option, none, some}
 use Prim.Native.Nat.{ℕ, suc, _+_, _-_, _*_, _≤_, _<_}
 use native.Mathlib.Omega.{arith}
-use lib.ListN.{length, take, drop, length-append, length-take, length-drop}
+use lib.ListN.{length, take, length-append, length-take}
 use lib.Dec.{eqb}
 use Rattle.fields.specs.Text.{Text}
 use Rattle.fields.specs.Decimal.{numeralOf}
 use Rattle.fields.specs.Fields.{digits}
 use Rattle.fields.specs.Places.{part}
+use Rattle.fields.proofs.Lists.{part-length}
 use Rattle.fields.proofs.Spelled.{length-digits}
 use Rattle.names.specs.Pieces.{andThen, allOf, onFirst, parts}
 use Rattle.names.specs.Name.{Key, member, Token, reads, Reading, tokens, stops, indexesOf, indexKey, laterToken, before, readName, bracket}
@@ -22,6 +23,7 @@ use Rattle.names.specs.declared.Step.the-variants.{Token as AToken, End,
 use Rattle.names.specs.declared.Measured.{Measured}
 use Rattle.names.specs.declared.Measured.the-variants.{Listing, Nothing}
 use Rattle.names.proofs.Tokens.{Form, dot, indexes, form-of}
+use Rattle.names.proofs.Piecewise.{key-indexes}
 use Rattle.names.proofs.Walking.{StepRead, StepTells, step-tells, FirstRead, FirstTells, first-tells, read-end}
 
 -- ---- how many indexes a token can have
@@ -52,12 +54,6 @@ pub indexes-few : (u : Text) (is : List ℕ) → indexesOf u ≡ some is → len
 unfolding indexesOf
 indexes-few u is e = let n = all-count (parts (eqb 44) u) is e in let h = parts-few (eqb 44) u in omega arith
 
-pub index-count : (is : List ℕ) → indexesIn (indexKey is) ≡ is
-unfolding indexesIn indexKey
-index-count [] = refl
-index-count (i ∷ []) = refl
-index-count (i ∷ (j ∷ js)) = refl
-
 -- a token has fewer indexes than bytes
 pub token-few : (p : Text) (k : Key) → laterToken p ≡ reads k → length (indexesIn k) < length p
 unfolding indexesIn bracket
@@ -68,8 +64,19 @@ token-few p k e = go (form-of p k e)
     go (indexes u is q n w) =
         let h = indexes-few u is n in
         let l = length-append u (93 ∷ []) in
-        let c : length (indexesIn (indexKey is)) ≡ length is = ap length (index-count is) in
+        let c : length (indexesIn (indexKey is)) ≡ length is = ap length (key-indexes is) in
         rw (q, w) (omega arith)
+
+-- a step that reads a token goes on, within the name, by more bytes than the token has indexes
+pub step-fits : (s : Text) (at e n : ℕ) → stepAt s at ≡ AToken e n → (at < e) × (e ≤ length s) × (n < e - at)
+step-fits s at e n q =
+    let r : StepRead s at e n = subst (StepTells s at) q (step-tells s at) in
+    let m = r .more in
+    let w = r .ends in
+    let k = token-few (part at e s) (r .key) (r .piece) in
+    let p = part-length s at e (omega arith) w in
+    let o = r .count in
+    (m, w, omega arith)
 
 -- ---- the bytes of one token
 pub length-indexes : (is : List ℕ) → length (layIndexes is) ≡ 8 * length is
@@ -109,9 +116,6 @@ unfolding adding
 adding-adding n b m c Nothing = refl
 adding-adding n b m c (Listing k d) = let p : n + (m + k) ≡ n + m + k = omega arith in let q : b + (c + d) ≡ b + c + d = omega arith in ap₂ Listing p q
 
-part-end : (s : Text) (at e : ℕ) → at ≤ e → e ≤ length s → e ≡ at + length (part at e s)
-part-end s at e l m = let a = length-take (e - at) (drop at s) in let d = length-drop at s in omega arith
-
 pub based-tells : (s : Text) (base : ℕ) → Based s base → FirstRead s base
 based-tells s base b = subst (FirstTells s) (b .first) (first-tells s) .0
 
@@ -130,20 +134,10 @@ measuring-start s base b =
     }
 
 module _ (s : Text) (at count bytes : ℕ) (c : Measuring s at count bytes) where
-  pub measuring-fits : (e n : ℕ) → stepAt s at ≡ AToken e n → (at < e) × (e ≤ length s) × (n < e - at)
-  measuring-fits e n q =
-      let r : StepRead s at e n = subst (StepTells s at) q (step-tells s at) in
-      let m = r .more in
-      let w = r .ends in
-      let k = token-few (part at e s) (r .key) (r .piece) in
-      let p = part-end s at e (omega arith) w in
-      let o = r .count in
-      (m, w, omega arith)
-
   pub measuring-next : (e n : ℕ) → stepAt s at ≡ AToken e n → Measuring s e (count + 1) (bytes + (2 + 8 * n))
   measuring-next e n q =
       let r : StepRead s at e n = subst (StepTells s at) q (step-tells s at) in
-      let f = measuring-fits e n q in
+      let f = step-fits s at e n q in
       let a = c .few in
       let b = c .small in
       record {
@@ -152,7 +146,7 @@ module _ (s : Text) (at count bytes : ℕ) (c : Measuring s at count bytes) wher
         few = omega arith;
         small = omega arith;
         left =
-            sym (ap (adding count bytes) (ap (λ x. measured x at) (r .rest) ∙ measured-before (record { text = part at e s; key = r .key }) (readFrom s e) at e (part-end s at e (omega arith) (f .1)) ∙ ap (λ x. adding 1 (2 + 8 * x) (measured (readFrom s e) e)) (r .count))
+            sym (ap (adding count bytes) (ap (λ x. measured x at) (r .rest) ∙ measured-before (record { text = part at e s; key = r .key }) (readFrom s e) at e (sym (part-length s at e (omega arith) (f .1))) ∙ ap (λ x. adding 1 (2 + 8 * x) (measured (readFrom s e) e)) (r .count))
             ∙ adding-adding count bytes 1 (2 + 8 * n) (measured (readFrom s e) e))
             ∙ c .left;
       }

@@ -14,12 +14,12 @@ use Rattle.fields.specs.Text.{Text, bytes, alike}
 use Rattle.fields.specs.Places.{scan}
 use Rattle.fields.proofs.Lists.{cond-elim}
 use Rattle.fields.proofs.Texts.{scan-more, scan-stop, scan-end, alike-is, length-lowered}
+use Rattle.fields.proofs.Scans.{scan-within}
 use Rattle.names.specs.Pieces.{isNot}
 use Rattle.names.specs.Name.{reads, stopsAt, isLetter, isNameByte, isName, nameLength, dotted, indexesOf, indexKey, indexed, isInside, insideLength, bracketed, inProgram, isUndotted, programLength, startsToken}
 use Rattle.names.specs.Steps.{countTold, indexesIn, pieceTold, isPieceByte, pieceEnd}
 use Rattle.names.specs.declared.Indexes.the-variants.{Counted, Unreadable}
 use Rattle.names.specs.declared.Step.the-variants.{Token, Stops}
-use Rattle.names.proofs.Cutting.{scan-within}
 
 -- ---- scans for a byte, and for the end of a piece
 module _ (b : ℕ) (t : Text) (i : ℕ) (h : i < length t) where
@@ -82,11 +82,11 @@ module _ (t : Text) (at e n : ℕ) (q : n ≡ nameLength t) where
   dotted-good z d = let l : 0 < n = omega arith in rw (← q, lt-ltb 0 n l, eq-eqb n (length t) d)
 
 -- ---- `[n]` and `[n,m..]`
-index-count : (is : List ℕ) → length (indexesIn (indexKey is)) ≡ length is
+pub key-indexes : (is : List ℕ) → indexesIn (indexKey is) ≡ is
 unfolding indexesIn indexKey
-index-count [] = refl
-index-count (i ∷ []) = refl
-index-count (i ∷ (j ∷ js)) = refl
+key-indexes [] = refl
+key-indexes (i ∷ []) = refl
+key-indexes (i ∷ (j ∷ js)) = refl
 
 inside-same : (t : Text) → scan (isNot 93) t 0 ≡ insideLength t
 unfolding insideLength isInside
@@ -129,7 +129,7 @@ module _ (t : Text) (at e k : ℕ) (q : k ≡ scan (isNot 93) t 0) where
       go (some is) c =
           let m : length is ≡ n = cc in
           let w : 2 + k ≡ 1 + length t = omega arith in
-          rw (eq-eqb (2 + k) (1 + length t) w) (ap (Token e) (index-count is ∙ m))
+          rw (eq-eqb (2 + k) (1 + length t) w) (ap (Token e) (ap length (key-indexes is) ∙ m))
 
 -- ---- the program part
 program-test : (s : Text) → length s < 8 → inProgram s ≡ false

@@ -1,48 +1,34 @@
 -- The bytes of a token listing as they are put into the buffer: the head, the indexes of a bracket, one token, all tokens, a range.
 -- Assumes nothing.
 use mathlib.Core.Path.{_≡_, refl, sym, ap, ap₂, subst, _∙_}
-use mathlib.Core.Bool.{Bool, true, false, cond, _&&_}
 use mathlib.Core.List.{List, [], _∷_, _++_, append-nil}
 use mathlib.Core.Option.{Option, none, some}
 use Prim.Native.Nat.{ℕ, suc, _+_, _-_, _*_, _%_, _^_, _≤_, _<_}
 use native.Mathlib.Omega.{arith}
-use lib.ListN.{length, take, drop, length-append, length-take, length-drop, take-append-drop}
+use lib.ListN.{length, take, drop, length-append, length-take, take-append-drop}
 use lib.Seq.{take-append-seam, length-take-le}
-use lib.Dec.{ltb}
-use borrow.Author.Tests.{ltb-true}
 use Rattle.fields.specs.Text.{Text}
-use Rattle.fields.specs.Decimal.{allDigits, valueFrom, numberEnd, numeralOf}
+use Rattle.fields.specs.Decimal.{numeralOf}
 use Rattle.fields.specs.Fields.{digits}
 use Rattle.fields.specs.Places.{scan, part, numberTold}
 use Rattle.fields.specs.Writing.{patch, answered}
 use Rattle.fields.specs.declared.Numeral.the-variants.{Value, Missing}
+use Rattle.fields.proofs.Lists.{drop-past, part-length}
+use Rattle.fields.proofs.Decimals.{missing-is, value-is, numeral-fits}
 use Rattle.fields.proofs.Spelled.{length-digits}
 use Rattle.fields.proofs.Patches.{length-patch}
-use Rattle.fields.proofs.Filling.{Filling, filling-start, filling-room, filling-next, filling-end, placing-start, placing-end, digits-one, digits-fit}
+use Rattle.fields.proofs.Filling.{filling-byte, filling-number, Filling, filling-start, filling-room, filling-next, filling-end, placing-start, placing-end}
 use Rattle.names.specs.Pieces.{andThen, isNot}
 use Rattle.names.specs.Name.{member, Token, Reading, tokens, stops, indexesOf, laterToken, before, readName, bracket}
 use Rattle.names.specs.Steps.{indexesIn, stepAt, readFrom}
 use Rattle.names.specs.Listing.{longestName, layIndexes, layToken, layTokens, layReading, tokenListing}
 use Rattle.names.specs.Told.{Based, IndexRoom, TokenRoom, Listable, listedIndexes, layPiece}
 use Rattle.names.specs.declared.Step.the-variants.{Token as AToken, End, Stops}
-use Rattle.names.proofs.Indexing.{indexesFrom, unreadable, last-index, more-indexes, told-missing, told-value}
+use Rattle.names.proofs.Indexing.{indexesFrom, unreadable, last-index, more-indexes}
 use Rattle.names.proofs.Tokens.{Form, dot, indexes, form-of}
-use Rattle.names.proofs.Measuring.{index-count, length-indexes, length-token, token-few, based-tells}
+use Rattle.names.proofs.Measuring.{step-fits, length-indexes, length-token, based-tells}
+use Rattle.names.proofs.Piecewise.{key-indexes}
 use Rattle.names.proofs.Walking.{StepRead, StepTells, step-tells, read-end}
-
--- ---- single bytes
--- a byte put behind what was written
-put-byte : (file old out out′ : List ℕ) (to v : ℕ) (rest : List ℕ) → v < 256 → Filling file old out to (v ∷ rest) → out′ ≡ patch out to (digits 1 (v % 256 ^ 1)) → Filling file old out′ (to + 1) rest
-put-byte file old out out′ to v rest h f e =
-    let n : Filling file old (patch out to (v ∷ [])) (to + 1) rest = filling-next file old out to (v ∷ []) rest f in
-    subst (λ x. Filling file old x (to + 1) rest) (sym (e ∙ ap (patch out to) (digits-one v h))) n
-
--- a number in eight bytes put behind what was written
-put-eight : (file old out out′ : List ℕ) (to v : ℕ) (rest : List ℕ) → v < 2 ^ 64 → Filling file old out to (digits 8 v ++ rest) → out′ ≡ patch out to (digits 8 (v % 256 ^ 8)) → Filling file old out′ (to + 8) rest
-put-eight file old out out′ to v rest h f e =
-    let n = filling-next file old out to (digits 8 v) rest f in
-    let m : Filling file old (patch out to (digits 8 v)) (to + 8) rest = subst (λ k. Filling file old (patch out to (digits 8 v)) (to + k) rest) (length-digits 8 v) n in
-    subst (λ x. Filling file old x (to + 8) rest) (sym (e ∙ ap (patch out to) (digits-fit 8 v h))) m
 
 -- ---- the head of a listing
 pub head-put : (old out₁ out₂ out₃ : List ℕ) (n base : ℕ) → n < 256 → base < 256 → 3 ≤ length old → out₁ ≡ patch old 0 (digits 1 (n % 256 ^ 1)) → out₂ ≡ patch out₁ 1 (digits 1 (base % 256 ^ 1))
@@ -50,13 +36,13 @@ pub head-put : (old out₁ out₂ out₃ : List ℕ) (n base : ℕ) → n < 256 
 head-put old out₁ out₂ out₃ n base h k r e f g =
     let t : List ℕ = n ∷ base ∷ 0 ∷ [] in
     let a = placing-start old 0 t r in
-    let b = put-byte t old old out₁ 0 n (base ∷ 0 ∷ []) h a e in
-    let c = put-byte t old out₁ out₂ 1 base (0 ∷ []) k b f in
-    let d = put-byte t old out₂ out₃ 2 0 [] (omega arith) c g in
+    let b = filling-byte t old old out₁ 0 n (base ∷ 0 ∷ []) h a e in
+    let c = filling-byte t old out₁ out₂ 1 base (0 ∷ []) k b f in
+    let d = filling-byte t old out₂ out₃ 2 0 [] (omega arith) c g in
     placing-end old out₃ 0 t 3 r d
 
 pub nothing-put : (old out : List ℕ) → 1 ≤ length old → out ≡ patch old 0 (digits 1 (0 % 256 ^ 1)) → out ≡ answered (0 ∷ []) old
-nothing-put old out r e = filling-end (0 ∷ []) old out 1 (put-byte (0 ∷ []) old old out 0 0 [] (omega arith) (filling-start (0 ∷ []) old r) e)
+nothing-put old out r e = filling-end (0 ∷ []) old out 1 (filling-byte (0 ∷ []) old old out 0 0 [] (omega arith) (filling-start (0 ∷ []) old r) e)
 
 -- ---- a range
 pub length-range : (i n : ℕ) → 10 ≡ length (1 ∷ i ∷ digits 8 n)
@@ -68,23 +54,13 @@ range-put old out₁ out₂ out₃ i n h k r e f g =
     let t : List ℕ = 1 ∷ i ∷ digits 8 n in
     let l = length-range i n in
     let a = filling-start t old (omega arith) in
-    let b = put-byte t old old out₁ 0 1 (i ∷ digits 8 n) (omega arith) a e in
-    let c = put-byte t old out₁ out₂ 1 i (digits 8 n) h b f in
+    let b = filling-byte t old old out₁ 0 1 (i ∷ digits 8 n) (omega arith) a e in
+    let c = filling-byte t old out₁ out₂ 1 i (digits 8 n) h b f in
     let c′ : Filling t old out₂ 2 (digits 8 n ++ []) = subst (Filling t old out₂ 2) (sym (append-nil (digits 8 n))) c in
-    let d = put-eight t old out₂ out₃ 2 n [] k c′ g in
+    let d = filling-number t old out₂ out₃ 2 8 n [] k c′ g in
     filling-end t old out₃ 10 d
 
 -- ---- the indexes of a bracket
-numeral-fits : (t : Text) (n : ℕ) → numeralOf t ≡ some n → n < 2 ^ 64
-unfolding numeralOf
-numeral-fits [] n e = let z : _≡_ {A = ℕ} 0 1 = cc in absurd (omega arith)
-numeral-fits (b ∷ r) n e = go (allDigits (b ∷ r)) (ltb (valueFrom 0 (b ∷ r)) numberEnd) refl e
-  where
-    go : (x y : Bool) → ltb (valueFrom 0 (b ∷ r)) numberEnd ≡ y → cond (x && y) (some (valueFrom 0 (b ∷ r))) none ≡ some n → n < 2 ^ 64
-    go false y q h = let z : _≡_ {A = ℕ} 0 1 = cc in absurd (omega arith)
-    go true false q h = let z : _≡_ {A = ℕ} 0 1 = cc in absurd (omega arith)
-    go true true q h = let z : valueFrom 0 (b ∷ r) ≡ n = cc in subst (λ m. m < 2 ^ 64) z (ltb-true (valueFrom 0 (b ∷ r)) numberEnd q)
-
 pub record Putting (t old out : List ℕ) (at to i : ℕ) : Type 0 where
   pub all : List ℕ
   pub read : indexesOf t ≡ some all
@@ -115,16 +91,16 @@ some-is a b e = cc
 module _ (t old out : List ℕ) (at to i e : ℕ) (p : Putting t old out at to i) (q : e ≡ scan (isNot 44) (drop i t) i) where
   pub putting-missing : numberTold (numeralOf (part i e t)) ≡ Missing → ⊥
   putting-missing m =
-      let z : none ≡ some (p .rest) = sym (unreadable t i e (p .within) q (told-missing (numeralOf (part i e t)) m)) ∙ p .left in
+      let z : none ≡ some (p .rest) = sym (unreadable t i e (p .within) q (missing-is (numeralOf (part i e t)) m)) ∙ p .left in
       let y : _≡_ {A = ℕ} 0 1 = cc in omega arith
 
   pub putting-last : (v : ℕ) (out′ : List ℕ) → length t ≤ e → numberTold (numeralOf (part i e t)) ≡ Value v → out′ ≡ patch out to (digits 8 (v % 256 ^ 8)) → out′ ≡ patch old at (layIndexes (listedIndexes (indexesOf t)))
   unfolding layIndexes listedIndexes
   putting-last v out′ h m g =
-      let n = told-value (numeralOf (part i e t)) v m in
+      let n = value-is (numeralOf (part i e t)) v m in
       let r : v ∷ [] ≡ p .rest = some-is (v ∷ []) (p .rest) (sym (last-index t i e (p .within) q v h n) ∙ p .left) in
       let f : Filling (take at old ++ layIndexes (p .all)) old out to (digits 8 v ++ []) = subst (λ x. Filling (take at old ++ layIndexes (p .all)) old out to (layIndexes x)) (sym r) (p .filling) in
-      let d = put-eight (take at old ++ layIndexes (p .all)) old out out′ to v [] (numeral-fits (part i e t) v n) f g in
+      let d = filling-number (take at old ++ layIndexes (p .all)) old out out′ to 8 v [] (numeral-fits (part i e t) v n) f g in
       placing-end old out′ at (layIndexes (p .all)) (to + 8) (p .room) d ∙ ap (λ x. patch old at (layIndexes (listedIndexes x))) (sym (p .read))
 
   pub putting-more : (v : ℕ) (out′ : List ℕ) → e < length t → numberTold (numeralOf (part i e t)) ≡ Value v → out′ ≡ patch out to (digits 8 (v % 256 ^ 8)) → Putting t old out′ at (to + 8) (e + 1)
@@ -132,7 +108,7 @@ module _ (t old out : List ℕ) (at to i e : ℕ) (p : Putting t old out at to i
   putting-more v out′ h m g = go (indexesFrom t (e + 1)) refl (sym (more-indexes t i e (p .within) q v h n) ∙ p .left)
     where
       n : numeralOf (part i e t) ≡ some v
-      n = told-value (numeralOf (part i e t)) v m
+      n = value-is (numeralOf (part i e t)) v m
 
       go : (o : Option (List ℕ)) → indexesFrom t (e + 1) ≡ o → andThen o (λ is. some (v ∷ is)) ≡ some (p .rest) → Putting t old out′ at (to + 8) (e + 1)
       go none w z = let y : _≡_ {A = ℕ} 0 1 = cc in absurd (omega arith)
@@ -146,7 +122,7 @@ module _ (t old out : List ℕ) (at to i e : ℕ) (p : Putting t old out at to i
             rest = is;
             left = w;
             within = omega arith;
-            filling = put-eight (take at old ++ layIndexes (p .all)) old out out′ to v (layIndexes is) (numeral-fits (part i e t) v n) f g;
+            filling = filling-number (take at old ++ layIndexes (p .all)) old out out′ to 8 v (layIndexes is) (numeral-fits (part i e t) v n) f g;
           }
 
 pub putting-size : (t old out : List ℕ) (at to i : ℕ) → Putting t old out at to i → length out ≡ length old
@@ -165,8 +141,8 @@ module _ (p old out₁ out₂ : List ℕ) (to e n : ℕ) (r : TokenRoom p old to
   token-two =
       let t : List ℕ = e ∷ n ∷ layIndexes (indexesIn (r .key)) in
       let a = placing-start old to t token-room in
-      let b = put-byte (take to old ++ t) old old out₁ to e (n ∷ layIndexes (indexesIn (r .key))) (r .small .0) a f in
-      let c = put-byte (take to old ++ t) old out₁ out₂ (to + 1) n (layIndexes (indexesIn (r .key))) (r .small .1) b g in
+      let b = filling-byte (take to old ++ t) old old out₁ to e (n ∷ layIndexes (indexesIn (r .key))) (r .small .0) a f in
+      let c = filling-byte (take to old ++ t) old out₁ out₂ (to + 1) n (layIndexes (indexesIn (r .key))) (r .small .1) b g in
       let z : to + 1 + 1 ≡ to + 2 = omega arith in
       subst (λ k. Filling (take to old ++ t) old out₂ k (layIndexes (indexesIn (r .key)))) z c
 
@@ -174,13 +150,9 @@ module _ (p old out₁ out₂ : List ℕ) (to e n : ℕ) (r : TokenRoom p old to
   pub token-plain : n ≡ 0 → out₂ ≡ patch old to (layPiece (laterToken p) e)
   unfolding layIndexes
   token-plain z =
-      let i : indexesIn (r .key) ≡ [] = none-left (indexesIn (r .key)) (r .count ∙ z) in
+      let i : indexesIn (r .key) ≡ [] = drop-past (indexesIn (r .key)) 0 (let c = r .count in omega arith) in
       let h : Filling (take to old ++ (e ∷ n ∷ layIndexes (indexesIn (r .key)))) old out₂ (to + 2) [] = subst (λ x. Filling (take to old ++ (e ∷ n ∷ layIndexes (indexesIn (r .key)))) old out₂ (to + 2) (layIndexes x)) i token-two in
       placing-end old out₂ to (e ∷ n ∷ layIndexes (indexesIn (r .key))) (to + 2) token-room h ∙ ap (patch old to) (sym (token-bytes p old to e n r))
-    where
-      none-left : (is : List ℕ) → length is ≡ 0 → is ≡ []
-      none-left [] e = refl
-      none-left (i ∷ is) e = let y : ⊥ = omega arith in absurd y
 
   -- the text inside a bracket, of which `last` is the last place
   pub token-inside : (last : ℕ) → last ≡ length p - 1 → (n ≡ 0 → ⊥) → (2 ≤ length p) × (indexesOf (part 1 last p) ≡ some (indexesIn (r .key)))
@@ -194,7 +166,7 @@ module _ (p old out₁ out₂ : List ℕ) (to e n : ℕ) (r : TokenRoom p old to
           let m : length p ≡ suc (length (u ++ (93 ∷ []))) = ap length b in
           let k : last - 1 ≡ length u = omega arith in
           let v : part 1 last p ≡ u = ap₂ take k (ap (drop 1) b) ∙ take-append-seam u (93 ∷ []) in
-          (omega arith, ap indexesOf v ∙ c ∙ ap some (sym (index-count is) ∙ ap indexesIn (sym d)))
+          (omega arith, ap indexesOf v ∙ c ∙ ap some (sym (key-indexes is) ∙ ap indexesIn (sym d)))
 
   pub token-index-room : (last : ℕ) → last ≡ length p - 1 → (n ≡ 0 → ⊥) → IndexRoom (part 1 last p) out₂ (to + 2)
   token-index-room last q z =
@@ -273,23 +245,10 @@ tokening-start s old base l =
       };
     }
 
-part-length : (s : Text) (at e : ℕ) → at ≤ e → e ≤ length s → at + length (part at e s) ≡ e
-part-length s at e l m = let a = length-take (e - at) (drop at s) in let d = length-drop at s in omega arith
-
 module _ (s old out : List ℕ) (at to : ℕ) (p : Tokening s old out at to) where
   module _ (e n : ℕ) (q : stepAt s at ≡ AToken e n) where
     step-read : StepRead s at e n
     step-read = subst (StepTells s at) q (step-tells s at)
-
-    pub tokening-within : (at < e) × (e ≤ length s) × (n < e - at)
-    tokening-within =
-        let r = step-read in
-        let m = r .more in
-        let w = r .ends in
-        let k = token-few (part at e s) (r .key) (r .piece) in
-        let l = part-length s at e (omega arith) w in
-        let o = r .count in
-        (m, w, omega arith)
 
     next-rest : Rest (record { text = part at e s; key = step-read .key }) (readFrom s e) (p .rest)
     next-rest = rest-of (record { text = part at e s; key = step-read .key }) (readFrom s e) (p .rest) (sym (step-read .rest) ∙ p .left)
@@ -297,14 +256,14 @@ module _ (s old out : List ℕ) (at to : ℕ) (p : Tokening s old out at to) whe
     next-filling : Filling (tokenListing s) old out to (layToken (step-read .key) e ++ layTokens (next-rest .others) e)
     unfolding layTokens
     next-filling =
-        let w = tokening-within in
+        let w = step-fits s at e n q in
         let l : at + length (part at e s) ≡ e = part-length s at e (omega arith) (w .1) in
         let m : layTokens (p .rest) at ≡ layToken (step-read .key) (at + length (part at e s)) ++ layTokens (next-rest .others) (at + length (part at e s)) = ap (λ x. layTokens x at) (next-rest .are) in
         subst (Filling (tokenListing s) old out to) (m ∙ ap (λ k. layToken (step-read .key) k ++ layTokens (next-rest .others) k) l) (p .filling)
 
     pub tokening-room : TokenRoom (part at e s) out to e n
     tokening-room =
-        let w = tokening-within in
+        let w = step-fits s at e n q in
         let h = p .short in
         let f = filling-room (tokenListing s) old out to (layToken (step-read .key) e ++ layTokens (next-rest .others) e) next-filling in
         let a = length-append (layToken (step-read .key) e) (layTokens (next-rest .others) e) in
@@ -315,7 +274,7 @@ module _ (s old out : List ℕ) (at to : ℕ) (p : Tokening s old out at to) whe
     pub tokening-next : (out′ : List ℕ) → out′ ≡ patch out to (layPiece (laterToken (part at e s)) e) → Tokening s old out′ e (to + (2 + 8 * n))
     unfolding layPiece
     tokening-next out′ g =
-        let w = tokening-within in
+        let w = step-fits s at e n q in
         let i : layPiece (laterToken (part at e s)) e ≡ layToken (step-read .key) e = ap (λ x. layPiece x e) (step-read .piece) in
         let f = filling-next (tokenListing s) old out to (layToken (step-read .key) e) (layTokens (next-rest .others) e) next-filling in
         let k : length (layToken (step-read .key) e) ≡ 2 + 8 * n = length-token (step-read .key) e ∙ ap (λ x. 2 + 8 * x) (step-read .count) in

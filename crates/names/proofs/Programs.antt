@@ -12,10 +12,14 @@ use Rattle.fields.specs.Text.{Text, bytes, between, lower, lowered, alike}
 use Rattle.fields.specs.Decimal.{isDigit}
 use Rattle.fields.specs.Places.{scan}
 use Rattle.fields.specs.Format.{All}
+use Rattle.fields.proofs.Lists.{all-weaken}
+use Rattle.fields.proofs.Texts.{Caseless, take-lowered, same-is}
+use Rattle.fields.proofs.Scans.{Passes, Misses, Ends, scan-within, scan-over, scan-cut, scan-lowered}
 use Rattle.names.specs.Pieces.{joined, pieces}
 use Rattle.names.specs.Name.{isLetter, isNameByte, isName, inProgram, isUndotted, programLength, startsToken, allTokens, readName}
-use Rattle.names.proofs.Casing.{Caseless, name-byte-lower, starts-lower, undotted-lower, take-lowered, scan-lowered, same-is}
-use Rattle.names.proofs.Cutting.{Passes, Misses, all-weaken, scan-within, Ends, scan-over, scan-cut, Opens, pieces-of}
+use Rattle.names.specs.Steps.{isPieceByte}
+use Rattle.names.proofs.Casing.{name-byte-lower, starts-lower, undotted-lower}
+use Rattle.names.proofs.Cutting.{Opens, pieces-of}
 use Rattle.names.proofs.Tokens.{name-bytes, name-byte-starts, name-plain}
 
 -- a text in a program starts so
@@ -30,17 +34,13 @@ scan-program : (f : ℕ → Bool) → Caseless f → (s : Text) → inProgram s 
     → scan f s 0 ≡ scan f (bytes "program:" ++ drop 8 (lowered s)) 0
 scan-program f h s e = sym (scan-lowered f h s 0) ∙ ap (λ t. scan f t 0) (program-text s e)
 
--- a byte that starts no token
-unfoldable isPlain : ℕ → Bool
-isPlain b = not (startsToken b)
-
-plain-lower : Caseless isPlain
-unfolding isPlain
+plain-lower : Caseless isPieceByte
+unfolding isPieceByte
 plain-lower b = ap not (starts-lower b)
 
-plain-program : (s : Text) → inProgram s ≡ true → 8 ≤ scan isPlain s 0
-unfolding isPlain startsToken scan
-plain-program s e = rw (scan-program isPlain plain-lower s e) (scan-within isPlain (drop 8 (lowered s)) 8 .0)
+plain-program : (s : Text) → inProgram s ≡ true → 8 ≤ scan isPieceByte s 0
+unfolding isPieceByte startsToken scan
+plain-program s e = rw (scan-program isPieceByte plain-lower s e) (scan-within isPieceByte (drop 8 (lowered s)) 8 .0)
 
 undotted-program : (s : Text) → inProgram s ≡ true → 8 ≤ scan isUndotted s 0
 unfolding isUndotted scan
@@ -52,12 +52,12 @@ name-program s e = scan-program isNameByte name-byte-lower s e
 
 -- ---- names outside programs
 -- pieces behind a name go on with a byte that no name has
-plain-byte : (b : ℕ) → startsToken b ≡ false → isPlain b ≡ true
-unfolding isPlain
+plain-byte : (b : ℕ) → startsToken b ≡ false → isPieceByte b ≡ true
+unfolding isPieceByte
 plain-byte b e = rw e
 
-ends-plain : (ps : List Text) → All (Opens startsToken) ps → Ends isPlain (joined ps)
-unfolding joined isPlain
+ends-plain : (ps : List Text) → All (Opens startsToken) ps → Ends isPieceByte (joined ps)
+unfolding joined isPieceByte
 ends-plain [] h = tt
 ends-plain ([] ∷ ps) h = absurd (h .0)
 ends-plain ((b ∷ r) ∷ ps) h = rw (h .0 .0)
@@ -80,7 +80,7 @@ name-outside q ps n h = go (inProgram (q ++ joined ps)) refl
         let s = q ++ joined ps in
         let a = plain-program s e in
         let b = name-program s e in
-        let c = scan-over isPlain q (joined ps) 0 (all-weaken (Misses startsToken) (Passes isPlain) q plain-byte (name-plain q n)) (ends-plain ps h) in
+        let c = scan-over isPieceByte q (joined ps) 0 (all-weaken (Misses startsToken) (Passes isPieceByte) q plain-byte (name-plain q n)) (ends-plain ps h) in
         let d = scan-over isNameByte q (joined ps) 0 (name-bytes q n) (ends-name ps h) in
         let z : ⊥ = omega arith in absurd z
     go false e = refl

@@ -5,8 +5,7 @@ use mathlib.Core.Path.{_≡_, refl, sym, ap, subst, _∙_}
 use mathlib.Core.Bool.{Bool, true, false, cond, true≢false}
 use mathlib.Core.List.{List, [], _∷_, _++_, append-assoc, append-nil}
 use mathlib.Core.Option.{Option, none, some}
-use Prim.Native.Nat.{ℕ, zero, suc, _<_, _+_, _-_}
-use native.Mathlib.Nat.{le-of-suc-le-suc}
+use Prim.Native.Nat.{ℕ, suc, _<_, _+_, _-_}
 use native.Mathlib.Omega.{arith}
 use lib.ListN.{length, drop, getD, length-append, length-drop, drop-of-length-le}
 use lib.Seq.{take-append-seam, drop-append-add, getD-append-seam, getD-append-add, getD-drop}
@@ -15,11 +14,13 @@ use borrow.Author.Tests.{lt-ltb, ltb-true, ltb-false}
 use Rattle.fields.specs.Text.{Text, between}
 use Rattle.fields.specs.Decimal.{isDigit, numeralOf}
 use Rattle.fields.specs.Format.{All}
+use Rattle.fields.proofs.Lists.{all-append, all-weaken, all-at}
+use Rattle.fields.proofs.Scans.{Passes, passes-other}
+use Rattle.fields.proofs.Decimals.{digits-each, numeral-digits}
 use Rattle.names.specs.Pieces.{andThen, joined}
 use Rattle.names.specs.Name.{Key, Token, tokens, isLetter, isNameByte, isName, laterToken, reads, bracket, readName, textOf, spelling}
 use Rattle.names.specs.Range.{lastFrom, beforeBrace, rangeAt, rangeOf, brace}
-use Rattle.names.proofs.Cutting.{all-append, all-weaken, Passes, passes-other}
-use Rattle.names.proofs.Tokens.{name-some, name-bytes, numeral-digits, digits-each, Form, dot, indexes, form-of, later-long}
+use Rattle.names.proofs.Tokens.{name-some, name-bytes, Form, dot, indexes, form-of, later-long}
 use Rattle.names.proofs.Spelling.{LaterToken, reads-names}
 
 -- ---- an array and its count
@@ -32,7 +33,11 @@ module _ (b : ℕ) where
       last-append s t (i + 1) (cond (eqb c b) (some i) p)
       ∙ ap (λ n. lastFrom b t n (lastFrom b s (i + 1) (cond (eqb c b) (some i) p))) e
 
-  last-absent : (s : Text) (i : ℕ) (p : Option ℕ) → All (λ c. eqb c b ≡ false) s → lastFrom b s i p ≡ p
+  -- no byte `b` stands in a text
+  abbrev pub Absent : Text → Type 0
+  Absent = All (λ c. eqb c b ≡ false)
+
+  pub last-absent : (s : Text) (i : ℕ) (p : Option ℕ) → Absent s → lastFrom b s i p ≡ p
   unfolding lastFrom
   last-absent [] i p h = refl
   last-absent (c ∷ s) i p h = rw (h .0) (last-absent s (i + 1) p (h .1))
@@ -77,11 +82,6 @@ last-behind s t h =
     let l = length-append s t in
     let e : length (s ++ t) - 1 ≡ length s + (length t - 1) = omega arith in
     rw (e, getD-append-add s t (length t - 1) 0)
-
-all-at : (P : ℕ → Type 0) (t : Text) (i : ℕ) → All P t → i < length t → P (getD t i 0)
-all-at P [] i h k = let z : ⊥ = omega arith in absurd z
-all-at P (b ∷ t) zero h k = h .0
-all-at P (b ∷ t) (suc i) h k = all-at P t i (h .1) (le-of-suc-le-suc k)
 
 all-last : (P : ℕ → Type 0) (t : Text) → All P t → 0 < length t → P (last t)
 unfolding last

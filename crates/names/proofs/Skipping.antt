@@ -1,18 +1,17 @@
 -- A path without its brackets: the states of the scan, and the loops that count what is kept and write it.
 -- Assumes nothing.
-use mathlib.Core.Path.{_≡_, refl, sym, ap, _∙_}
+use mathlib.Core.Path.{_≡_, ap, subst}
 use mathlib.Core.Bool.{true, false}
-use mathlib.Core.List.{List, [], _∷_, _++_, append-assoc}
-use Prim.Native.Nat.{ℕ, suc, _+_, _-_, _≤_, _<_}
+use mathlib.Core.List.{List, [], _∷_}
+use Prim.Native.Nat.{ℕ, _+_, _≤_, _<_}
 use native.Mathlib.Omega.{arith}
-use native.Mathlib.Numerals.{add-one}
-use lib.ListN.{length, take, drop, getD, set, length-drop, length-append}
-use lib.Seq.{drop-drop, take-suc, set-at, getD-drop, length-take-le, take-all}
+use lib.ListN.{length, drop, getD, set}
 use lib.Dec.{eqb}
 use borrow.Author.Tests.{eq-eqb, ne-eqb}
 use Rattle.fields.specs.Text.{Text}
 use Rattle.fields.specs.Writing.{answered}
 use Rattle.fields.proofs.Lists.{drop-next, drop-past}
+use Rattle.fields.proofs.Filling.{Filling, filling-start, filling-room, filling-set, filling-end}
 use Rattle.names.specs.Strip.{skipping, isKept, stripFrom, stripped}
 
 -- ---- the states
@@ -90,68 +89,32 @@ kept-end s i n k h c = let z = ap length (strip-end s i k h) in let l = c .left 
 -- ---- writing it
 pub record Stripping (s old out : List ℕ) (i n k : ℕ) : Type 0 where
   pub within : i ≤ length s
-  pub room : length (stripped s) ≤ length old
-  pub few : n ≤ length (stripped s)
-  pub left : drop n (stripped s) ≡ stripFrom k (drop i s)
-  pub written : out ≡ answered (take n (stripped s)) old
-
--- the next byte of an answer, put behind those written before
-answered-byte : (file old rest : List ℕ) (n b : ℕ) → length file ≤ length old → drop n file ≡ b ∷ rest
-    → set (answered (take n file) old) n b ≡ answered (take (n + 1) file) old
-unfolding answered
-answered-byte file old rest n b r e =
-    let l = length-drop n file in
-    let m : suc (length rest) ≡ length file - n = sym (ap length e) ∙ l in
-    let t : length (take n file) ≡ n = length-take-le n file (omega arith) in
-    let u : length (take (n + 1) file) ≡ n + 1 = length-take-le (n + 1) file (omega arith) in
-    let z : n + 0 ≡ n = omega arith in
-    let g : getD file n 0 ≡ b = ap (λ j. getD file j 0) (sym z) ∙ sym (getD-drop n file 0 0) ∙ ap (λ l. getD l 0 0) e in
-    let f : take (n + 1) file ≡ take n file ++ (b ∷ []) = rw (add-one n, ← g) (take-suc file n 0 (omega arith)) in
-    rw (t, u, drop-next old n (omega arith), f) (set-at (take n file) (getD old n 0) (drop (n + 1) old) b n t ∙ sym (append-assoc (take n file) (b ∷ []) (drop (n + 1) old)))
+  pub filling : Filling (stripped s) old out n (stripFrom k (drop i s))
 
 pub strip-start : (s old : List ℕ) → length (stripped s) ≤ length old → Stripping s old old 0 0 0
-unfolding stripped answered
-strip-start s old r = record { within = omega arith; room = r; few = omega arith; left = refl; written = refl }
+unfolding stripped
+strip-start s old r = record { within = omega arith; filling = filling-start (stripped s) old r }
 
--- a byte that is kept stands inside the answer
-pub strip-room : (s old out : List ℕ) (i n k : ℕ) → i < length s → isKept k (getD s i 0) ≡ true → Stripping s old out i n k → (n < length (stripped s)) × (n < length out) × (length out ≡ length old)
-unfolding answered
+-- a byte that is kept is the next one of the answer
+next-kept : (s old out : List ℕ) (i n k : ℕ) → i < length s → isKept k (getD s i 0) ≡ true → Stripping s old out i n k
+    → Filling (stripped s) old out n (getD s i 0 ∷ stripFrom (skipping k (getD s i 0)) (drop (i + 1) s))
+next-kept s old out i n k h e c = subst (Filling (stripped s) old out n) (strip-kept s i k h e) (c .filling)
+
+pub strip-room : (s old out : List ℕ) (i n k : ℕ) → i < length s → isKept k (getD s i 0) ≡ true → Stripping s old out i n k → (n < length out) × (length out ≡ length old)
 strip-room s old out i n k h e c =
-    let l = length-drop n (stripped s) in
-    let m : suc (length (stripFrom (skipping k (getD s i 0)) (drop (i + 1) s))) ≡ length (stripped s) - n = sym (ap length (c .left ∙ strip-kept s i k h e)) ∙ l in
-    let t : length (take n (stripped s)) ≡ n = length-take-le n (stripped s) (c .few) in
-    let r = c .room in
-    let d = length-drop (length (take n (stripped s))) old in
-    let a = length-append (take n (stripped s)) (drop (length (take n (stripped s))) old) in
-    let w : length out ≡ length (take n (stripped s) ++ drop (length (take n (stripped s))) old) = ap length (c .written) in
-    (omega arith, omega arith, omega arith)
+    let m = filling-room (stripped s) old out n (getD s i 0 ∷ stripFrom (skipping k (getD s i 0)) (drop (i + 1) s)) (next-kept s old out i n k h e c) in
+    (omega arith, m .2)
 
 module _ (s old out : List ℕ) (i n k next : ℕ) (h : i < length s) (q : next ≡ skipping k (getD s i 0)) (c : Stripping s old out i n k) where
   pub strip-more : isKept k (getD s i 0) ≡ true → Stripping s old (set out n (getD s i 0)) (i + 1) (n + 1) next
   strip-more e =
-      let l : drop n (stripped s) ≡ getD s i 0 ∷ stripFrom (skipping k (getD s i 0)) (drop (i + 1) s) = c .left ∙ strip-kept s i k h e in
       record {
         within = omega arith;
-        room = c .room;
-        few = (let m = strip-room s old out i n k h e c .0 in omega arith);
-        left = rw q (sym (drop-drop 1 n (stripped s)) ∙ ap (drop 1) l);
-        written = ap (λ x. set x n (getD s i 0)) (c .written) ∙ answered-byte (stripped s) old (stripFrom (skipping k (getD s i 0)) (drop (i + 1) s)) n (getD s i 0) (c .room) l;
+        filling = rw q (filling-set (stripped s) old out n (getD s i 0) (stripFrom (skipping k (getD s i 0)) (drop (i + 1) s)) (next-kept s old out i n k h e c));
       }
 
   pub strip-passed : isKept k (getD s i 0) ≡ false → Stripping s old out (i + 1) n next
-  strip-passed e = record {
-    within = omega arith;
-    room = c .room;
-    few = c .few;
-    left = rw q (c .left ∙ strip-skipped s i k h e);
-    written = c .written;
-  }
+  strip-passed e = record { within = omega arith; filling = rw q (subst (Filling (stripped s) old out n) (strip-skipped s i k h e) (c .filling)) }
 
--- ---- the end
 pub strip-done : (s old out : List ℕ) (i n k : ℕ) → length s ≤ i → Stripping s old out i n k → out ≡ answered (stripped s) old
-strip-done s old out i n k h c =
-    let d : drop n (stripped s) ≡ [] = c .left ∙ strip-end s i k h in
-    let l = length-drop n (stripped s) in
-    let z : 0 ≡ length (stripped s) - n = sym (ap length d) ∙ l in
-    let f = c .few in
-    c .written ∙ ap (λ x. answered x old) (take-all n (stripped s) (omega arith))
+strip-done s old out i n k h c = filling-end (stripped s) old out n (subst (Filling (stripped s) old out n) (strip-end s i k h) (c .filling))

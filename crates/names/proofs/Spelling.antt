@@ -9,9 +9,10 @@ use native.Mathlib.Omega.{arith}
 use lib.ListN.{length, take, drop, take-append-drop, length-append, length-drop}
 use Rattle.fields.specs.Text.{Text}
 use Rattle.fields.specs.Format.{All}
+use Rattle.fields.proofs.Lists.{all-take}
 use Rattle.names.specs.Pieces.{joined}
 use Rattle.names.specs.Name.{Key, member, Token, Reading, tokens, stops, Piece, reads, stopsAt, nameLength, isName, laterToken, before, following, laterTokens, allTokens, programLength, startsToken, readName, textOf, spelling}
-use Rattle.names.proofs.Cutting.{all-take, Opens, Cut, pieces-cut}
+use Rattle.names.proofs.Cutting.{Opens, Cut, pieces-cut}
 use Rattle.names.proofs.Tokens.{name-some, Later, later, later-long}
 use Rattle.names.proofs.Programs.{Part, part-of, read-pieces}
 

@@ -5,17 +5,18 @@ use mathlib.Core.Bool.{Bool, true, false, cond, _&&_}
 use mathlib.Core.List.{_∷_}
 use Prim.Native.Nat.{ℕ, _+_, _-_, _≤_, _<_}
 use native.Mathlib.Omega.{arith}
-use lib.ListN.{length, take, drop, getD, length-take, length-drop}
+use lib.ListN.{length, take, getD, length-take}
 use lib.Dec.{ltb}
 use borrow.Author.Tests.{lt-ltb, le-ltb, eq-eqb, ne-eqb}
 use Rattle.fields.specs.Text.{Text}
 use Rattle.fields.specs.Places.{part}
+use Rattle.fields.proofs.Lists.{part-length, part-first}
 use Rattle.names.specs.Name.{isName, nameLength, dotted, bracketed, laterToken, programLength}
 use Rattle.names.specs.Steps.{pieceTold, pieceEnd, stepAt, baseTold, baseAt, firstStep}
 use Rattle.names.specs.declared.Step.{Step}
 use Rattle.names.specs.declared.Step.the-variants.{Token, End, Stops}
 use Rattle.names.proofs.Piecewise.{name-within}
-use Rattle.names.proofs.Walking.{cut-at, part-first}
+use Rattle.names.proofs.Walking.{cut-at}
 
 pub next-end : (s : Text) (at : ℕ) → length s ≤ at → End ≡ stepAt s at
 unfolding stepAt
@@ -27,7 +28,7 @@ module _ (s : Text) (at e : ℕ) (h : at < length s) (q : e ≡ pieceEnd s (at +
 
   -- the bytes behind the first one of the piece
   pub next-piece : e ≡ at + 1 + length (part (at + 1) e s)
-  next-piece = let w = next-within in let a = length-take (e - (at + 1)) (drop (at + 1) s) in let d = length-drop (at + 1) s in omega arith
+  next-piece = let w = next-within in sym (part-length s (at + 1) e (w .0) (w .1))
 
   step-is : stepAt s at ≡ pieceTold at e (laterToken (getD s at 0 ∷ part (at + 1) e s))
   unfolding stepAt
@@ -55,12 +56,12 @@ module _ (s : Text) (at e : ℕ) (p : at ≡ length (take (programLength s) s)) 
   unfolding firstStep baseAt
   first-is = rw (← p, ← q)
 
-  part-length : length (part at e s) ≡ e - at
-  part-length = let w = first-within in let a = length-take (e - at) (drop at s) in let d = length-drop at s in omega arith
+  first-length : length (part at e s) ≡ e - at
+  first-length = let w = first-within in let l = part-length s at e (w .0) (w .1) in omega arith
 
   module _ (n : ℕ) (m : n ≡ nameLength (part at e s)) where
     pub first-room : at + n ≤ e
-    first-room = let w = first-within in let l = part-length in let b = name-within (part at e s) in omega arith
+    first-room = let w = first-within in let l = first-length in let b = name-within (part at e s) in omega arith
 
     pub first-none : n ≡ 0 → Stops at ≡ firstStep s
     unfolding baseTold isName
@@ -68,7 +69,7 @@ module _ (s : Text) (at e : ℕ) (p : at ≡ length (take (programLength s) s)) 
 
     pub first-short : (n ≡ e - at → ⊥) → Stops (at + n) ≡ firstStep s
     unfolding baseTold isName
-    first-short d = sym (first-is ∙ rw (← m, part-length, ne-eqb n (e - at) d) (go (ltb 0 n)))
+    first-short d = sym (first-is ∙ rw (← m, first-length, ne-eqb n (e - at) d) (go (ltb 0 n)))
       where
         go : (b : Bool) → cond (b && false) (Token e 0) (Stops (at + n)) ≡ Stops (at + n)
         go true = refl
@@ -76,4 +77,4 @@ module _ (s : Text) (at e : ℕ) (p : at ≡ length (take (programLength s) s)) 
 
     pub first-good : (n ≡ 0 → ⊥) → n ≡ e - at → Token e 0 ≡ firstStep s
     unfolding baseTold isName
-    first-good z d = let l : 0 < n = omega arith in sym (first-is ∙ rw (← m, part-length, lt-ltb 0 n l, eq-eqb n (e - at) d))
+    first-good z d = let l : 0 < n = omega arith in sym (first-is ∙ rw (← m, first-length, lt-ltb 0 n l, eq-eqb n (e - at) d))

@@ -10,11 +10,11 @@ use lib.ListN.{length, take, drop, take-append-drop, length-append}
 use lib.Dec.{eqb, ltb}
 use borrow.Author.Tests.{ltb-true}
 use Rattle.fields.specs.Text.{Text}
-use Rattle.fields.specs.Places.{scan}
 use Rattle.fields.proofs.Lists.{cond-elim}
 use Rattle.names.specs.Pieces.{joined}
-use Rattle.names.specs.Name.{member, Token, Reading, tokens, stops, Piece, reads, stopsAt, isLetter, isNameByte, nameLength, isName, dotted, indexesOf, indexed, insideLength, bracketed, laterToken, before, following, laterTokens, allTokens, programLength, startsToken, readName}
-use Rattle.names.proofs.Cutting.{scan-within, pieces-cut}
+use Rattle.names.specs.Name.{member, Token, Reading, tokens, stops, Piece, reads, stopsAt, isName, dotted, indexesOf, indexed, insideLength, bracketed, laterToken, before, following, laterTokens, allTokens, programLength, startsToken, readName}
+use Rattle.names.proofs.Cutting.{pieces-cut}
+use Rattle.names.proofs.Piecewise.{name-within}
 
 -- a reading, or one of a piece, that stops at `n` at the latest
 abbrev Within : ℕ → Reading → Type 0
@@ -25,16 +25,9 @@ abbrev PieceWithin : ℕ → Piece → Type 0
 PieceWithin n (reads k) = Unit {0}
 PieceWithin n (stopsAt i) = i ≤ n
 
-name-length-within : (t : Text) → nameLength t ≤ length t
-unfolding nameLength
-name-length-within [] = omega arith
-name-length-within (b ∷ r) =
-    let a = scan-within isNameByte r 1 in
-    cond-elim (λ n. n ≤ length (b ∷ r)) {x = scan isNameByte r 1} {y = 0} (isLetter b) (λ e. omega arith) (λ e. omega arith)
-
 dotted-within : (r : Text) → PieceWithin (1 + length r) (dotted r)
 unfolding dotted
-dotted-within r = let a = name-length-within r in cond-elim (PieceWithin (1 + length r)) (isName r) (λ e. tt) (λ e. omega arith)
+dotted-within r = let a = name-within r in cond-elim (PieceWithin (1 + length r)) (isName r) (λ e. tt) (λ e. omega arith)
 
 indexed-within : (o : Option (List ℕ)) (e n : ℕ) → e ≤ n → PieceWithin n (indexed o e n)
 unfolding indexed
@@ -79,14 +72,14 @@ all-within : (h q : Text) (ps : List Text) (n : ℕ) → length h + length (q ++
 unfolding allTokens
 all-within h q ps n l =
     let a = length-append q (joined ps) in
-    let b = name-length-within q in
+    let b = name-within q in
     cond-elim (Within n) (isName q)
     (λ e. before-within n (record { text = h ++ q; key = member (h ++ q) }) (laterTokens ps (length h + length q)) (later-within ps (length h + length q) n (omega arith)))
     (λ e. omega arith)
 
-name-within : (s : Text) → Within (length s) (readName s)
+reading-within : (s : Text) → Within (length s) (readName s)
 unfolding readName
-name-within s =
+reading-within s =
     let h = take (programLength s) s in
     let c = pieces-cut startsToken (drop (programLength s) s) in
     let a = ap length (take-append-drop (programLength s) s) in
@@ -96,4 +89,4 @@ name-within s =
 
 -- reading stops in the name or at its end
 pub stop-within : (s : Text) (i : ℕ) → readName s ≡ stops i → i ≤ length s
-stop-within s i e = subst (Within (length s)) e (name-within s)
+stop-within s i e = subst (Within (length s)) e (reading-within s)

@@ -9,9 +9,10 @@ use native.Mathlib.Omega.{arith}
 use lib.Dec.{eqb}
 use Rattle.fields.specs.Text.{Text, lower, lowered}
 use Rattle.fields.specs.Format.{All}
-use Rattle.fields.proofs.Lists.{cond-elim}
+use Rattle.fields.proofs.Lists.{cond-elim, at-cond}
+use Rattle.fields.proofs.Texts.{eqb-lower}
 use Rattle.names.specs.Strip.{skipping, isKept, stripFrom, stripped}
-use Rattle.names.proofs.Casing.{at-cond, eqb-lower, bracket-lower}
+use Rattle.names.proofs.Casing.{bracket-lower}
 
 -- ---- lower case
 -- a state: no letter ends what is left out

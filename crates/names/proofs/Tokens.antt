@@ -2,7 +2,7 @@
 -- From this follow the bytes of a token and its length, and that what reads is a piece.
 -- Assumes nothing.
 use mathlib.Core.Path.{_≡_, refl, sym, ap, subst, _∙_}
-use mathlib.Core.Bool.{Bool, true, false, cond, _&&_, _||_, false≢true, or-true}
+use mathlib.Core.Bool.{Bool, true, false, cond, _||_, false≢true, or-true}
 use mathlib.Core.List.{List, [], _∷_, _++_, map}
 use mathlib.Core.Option.{Option, none, some, Option·none-ne-some}
 use Prim.Native.Nat.{ℕ, suc, _≤_, _<_, _+_}
@@ -12,13 +12,15 @@ use lib.Seq.{take-append-seam}
 use lib.Dec.{eqb, ltb}
 use borrow.Author.Tests.{eqb-true, lt-ltb, eq-eqb, not-false}
 use Rattle.fields.specs.Text.{Text, between}
-use Rattle.fields.specs.Decimal.{isDigit, allDigits, valueFrom, numberEnd, numeralOf}
+use Rattle.fields.specs.Decimal.{isDigit, allDigits, numeralOf}
 use Rattle.fields.specs.Places.{scan}
 use Rattle.fields.specs.Format.{All}
+use Rattle.fields.proofs.Lists.{and-left, and-right, eqb-sym, all-append, all-weaken}
+use Rattle.fields.proofs.Scans.{Passes, Misses, passes-other, Ends, scan-all, scan-over, scan-ends}
+use Rattle.fields.proofs.Decimals.{digits-more, digits-first, digits-each, numeral-digits}
 use Rattle.names.specs.Pieces.{andThen, allOf, onFirst, parts}
 use Rattle.names.specs.Name.{Key, member, Piece, reads, stopsAt, isLetter, isNameByte, nameLength, isName, dotted, indexesOf, indexKey, indexed, isInside, insideLength, bracketed, laterToken, startsToken, bracket}
-use Rattle.names.proofs.Casing.{and-left, and-right, eqb-sym}
-use Rattle.names.proofs.Cutting.{all-append, all-weaken, Passes, Misses, passes-other, scan-all, scan-over, scan-halts, Halts, Opens, parts-plain}
+use Rattle.names.proofs.Cutting.{Opens, parts-plain}
 
 -- ---- names
 -- a name has a byte, and name bytes alone
@@ -52,25 +54,6 @@ pub name-plain : (t : Text) → isName t ≡ true → All (Misses startsToken) t
 name-plain t e = all-weaken (Passes isNameByte) (Misses startsToken) t name-byte-starts (name-bytes t e)
 
 -- ---- indexes
-pub numeral-digits : (t : Text) (n : ℕ) → numeralOf t ≡ some n → allDigits t ≡ true
-unfolding numeralOf
-numeral-digits [] n e = absurd (Option·none-ne-some n e)
-numeral-digits (b ∷ r) n e = go (allDigits (b ∷ r)) (ltb (valueFrom 0 (b ∷ r)) numberEnd) e
-  where
-    go : (x y : Bool) → cond (x && y) (some (valueFrom 0 (b ∷ r))) none ≡ some n → x ≡ true
-    go true y f = refl
-    go false y f = absurd (Option·none-ne-some n f)
-
-pub digits-each : (t : Text) → allDigits t ≡ true → All (Passes isDigit) t
-unfolding allDigits
-digits-each [] e = tt
-digits-each (b ∷ r) e = go (isDigit b) refl e (digits-each r)
-  where
-    go : (x : Bool) → isDigit b ≡ x → cond x (allDigits r) false ≡ true → (allDigits r ≡ true → All (Passes isDigit) r)
-        → All (Passes isDigit) (b ∷ r)
-    go true p q k = (p, k q)
-    go false p q k = absurd (false≢true q)
-
 -- all values are there only if the first is, and all others
 all-there : (x : Option ℕ) (o : Option (List ℕ)) (is : List ℕ) → andThen x (λ a. andThen o (λ r. some (a ∷ r))) ≡ some is
     → (n : ℕ) × (x ≡ some n) × (ms : List ℕ) × (o ≡ some ms)
@@ -100,13 +83,9 @@ comma-index b e = rw (e, or-true (isDigit b))
 
 first-digits : (b : ℕ) (ps : List Text) → All (λ t. allDigits t ≡ true) (onFirst b ps)
     → (isDigit b ≡ true) × All (λ t. allDigits t ≡ true) ps
-unfolding onFirst allDigits
-first-digits b [] h = (digits-each (b ∷ []) (h .0) .0, tt)
-first-digits b (p ∷ ps) h = (digits-each (b ∷ p) (h .0) .0, (tail (isDigit b) (h .0), h .1))
-  where
-    tail : (x : Bool) → cond x (allDigits p) false ≡ true → allDigits p ≡ true
-    tail true e = e
-    tail false e = absurd (false≢true e)
+unfolding onFirst
+first-digits b [] h = (digits-first b [] (h .0), tt)
+first-digits b (p ∷ ps) h = let d = digits-first b p (h .0) in (d, (sym (digits-more b p d) ∙ h .0, h .1))
 
 parts-bytes : (u : Text) → All (λ t. allDigits t ≡ true) (parts (eqb 44) u) → All (Passes isIndexByte) u
 unfolding parts
@@ -178,25 +157,18 @@ dotted-form r k e = go (isName r) refl e
     go false p q = absurd (stops-reads (1 + nameLength r) k q)
 
 -- the bracket that closes a piece stands at its end
-none-left : (b : ℕ) (r : Text) → length (b ∷ r) ≡ 1 → b ∷ r ≡ b ∷ []
-none-left b [] e = refl
-none-left b (c ∷ r) e = let z : ⊥ = omega arith in absurd z
-
-closes : (b : ℕ) → isInside b ≡ false → b ≡ 93
+last-closes : (l : Text) → length l ≡ 1 → Ends isInside l → l ≡ 93 ∷ []
 unfolding isInside
-closes b e = eqb-true b 93 (not-false (eqb b 93) e)
+last-closes [] n e = let z : ⊥ = omega arith in absurd z
+last-closes (b ∷ []) n e = ap (λ c. c ∷ []) (eqb-true b 93 (not-false (eqb b 93) e))
+last-closes (b ∷ (c ∷ r)) n e = let z : ⊥ = omega arith in absurd z
 
 closing : (r : Text) → 2 + insideLength r ≡ 1 + length r → r ≡ take (insideLength r) r ++ (93 ∷ [])
 unfolding insideLength
-closing r e = go (scan-halts isInside r (omega arith))
-  where
-    go : Halts isInside r → r ≡ take (scan isInside r 0) r ++ (93 ∷ [])
-    go h =
-        let l = length-drop (scan isInside r 0) r in
-        let one : length (drop (scan isInside r 0) r) ≡ 1 = omega arith in
-        let n : length (h .byte ∷ h .rest) ≡ 1 = sym (ap length (h .left)) ∙ one in
-        sym (take-append-drop (scan isInside r 0) r)
-        ∙ ap (λ t. take (scan isInside r 0) r ++ t) (h .left ∙ none-left (h .byte) (h .rest) n ∙ ap (λ b. b ∷ []) (closes (h .byte) (h .misses)))
+closing r e =
+    let l = length-drop (scan isInside r 0) r in
+    sym (take-append-drop (scan isInside r 0) r)
+    ∙ ap (λ t. take (scan isInside r 0) r ++ t) (last-closes (drop (scan isInside r 0) r) (omega arith) (scan-ends isInside r))
 
 indexed-form : (r : Text) (k : Key) (o : Option (List ℕ)) → indexesOf (take (insideLength r) r) ≡ o
     → indexed o (2 + insideLength r) (1 + length r) ≡ reads k → Form (91 ∷ r) k

@@ -4,7 +4,7 @@ use Prim.Native.Nat.{_-_}
 use native.Mathlib.Omega.{arith}
 use lib.ListN.{length}
 use borrow.Author.Needs.{needs}
-use Rattle.names.proofs.Measuring.{Measuring, measuring-start, measuring-fits, measuring-next, measuring-end, measuring-stops}
+use Rattle.names.proofs.Measuring.{Measuring, measuring-start, step-fits, measuring-next, measuring-end, measuring-stops}
 use Rattle.names.proofs.listing.measure.Statement.{statement}
 use Rattle.names.proofs.listing.measure.Tie as tie
 
@@ -27,16 +27,16 @@ add-count : tie.Need-add-count Inv-loop μ-loop
 add-count c = search needs
 
 mul-bytes : tie.Need-mul-bytes Inv-loop μ-loop
-mul-bytes c = let f = measuring-fits _ _ _ _ (c .before .before .before .before .loop .inv) _ _ (sym (c .before .before .before .next-token .ensures) ∙ c .before .step .given .1) in omega (arith, f, c .before .before .before .before .loop .inv .small, c .before .before .before .before .loop .inv .short)
+mul-bytes c = let f = step-fits _ _ _ _ (sym (c .before .before .before .next-token .ensures) ∙ c .before .step .given .1) in omega (arith, f, c .before .before .before .before .loop .inv .small, c .before .before .before .before .loop .inv .short)
 
 add-bytes : tie.Need-add-bytes Inv-loop μ-loop
-add-bytes c = let f = measuring-fits _ _ _ _ (c .before .before .before .before .loop .inv) _ _ (sym (c .before .before .before .next-token .ensures) ∙ c .before .step .given .1) in omega (arith, f, c .before .before .before .before .loop .inv .small, c .before .before .before .before .loop .inv .short)
+add-bytes c = let f = step-fits _ _ _ _ (sym (c .before .before .before .next-token .ensures) ∙ c .before .step .given .1) in omega (arith, f, c .before .before .before .before .loop .inv .small, c .before .before .before .before .loop .inv .short)
 
 add-bytes-2 : tie.Need-add-bytes-2 Inv-loop μ-loop
-add-bytes-2 c = let f = measuring-fits _ _ _ _ (c .before .before .before .before .loop .inv) _ _ (sym (c .before .before .before .next-token .ensures) ∙ c .before .step .given .1) in omega (arith, f, c .before .before .before .before .loop .inv .small, c .before .before .before .before .loop .inv .short)
+add-bytes-2 c = let f = step-fits _ _ _ _ (sym (c .before .before .before .next-token .ensures) ∙ c .before .step .given .1) in omega (arith, f, c .before .before .before .before .loop .inv .small, c .before .before .before .before .loop .inv .short)
 
 loop-less : tie.Need-loop-less Inv-loop μ-loop
-loop-less c = let f = measuring-fits _ _ _ _ (c .before .before .before .before .loop .inv) _ _ (sym (c .before .before .before .next-token .ensures) ∙ c .before .step .given .1) in omega (arith, f, c .before .before .before .before .loop .inv .small, c .before .before .before .before .loop .inv .short)
+loop-less c = let f = step-fits _ _ _ _ (sym (c .before .before .before .next-token .ensures) ∙ c .before .step .given .1) in omega (arith, f, c .before .before .before .before .loop .inv .small, c .before .before .before .before .loop .inv .short)
 
 loop-again : tie.Need-loop-again Inv-loop μ-loop
 loop-again c = measuring-next _ _ _ _ (c .before .before .before .before .loop .inv) _ _ (sym (c .before .before .before .next-token .ensures) ∙ c .before .step .given .1)

@@ -4,7 +4,8 @@ use Prim.Native.Nat.{_-_}
 use native.Mathlib.Omega.{arith}
 use lib.ListN.{length}
 use borrow.Author.Needs.{needs}
-use Rattle.names.proofs.Placing.{Tokening, tokening-start, tokening-within, tokening-room, tokening-next, tokening-size, tokening-end, tokening-stops}
+use Rattle.names.proofs.Measuring.{step-fits}
+use Rattle.names.proofs.Placing.{Tokening, tokening-start, tokening-room, tokening-next, tokening-size, tokening-end, tokening-stops}
 use Rattle.names.proofs.listing.put_tokens.Statement.{statement}
 use Rattle.names.proofs.listing.put_tokens.Tie as tie
 
@@ -24,28 +25,28 @@ enum-known-step : tie.Need-enum-known-step Inv-loop μ-loop
 enum-known-step c = search needs
 
 sub-put-token : tie.Need-sub-put-token Inv-loop μ-loop
-sub-put-token c = let w = tokening-within _ _ _ _ _ (c .before .before .before .before .before .loop .inv) _ _ (sym (c .before .before .before .before .next-token .ensures) ∙ c .before .before .step .given .1) in omega (arith, w)
+sub-put-token c = let w = step-fits _ _ _ _ (sym (c .before .before .before .before .next-token .ensures) ∙ c .before .before .step .given .1) in omega (arith, w)
 
 part-put-token-start : tie.Need-part-put-token-start Inv-loop μ-loop
-part-put-token-start c = let w = tokening-within _ _ _ _ _ (c .before .before .before .before .before .loop .inv) _ _ (sym (c .before .before .before .before .next-token .ensures) ∙ c .before .before .step .given .1) in omega (arith, w)
+part-put-token-start c = let w = step-fits _ _ _ _ (sym (c .before .before .before .before .next-token .ensures) ∙ c .before .before .step .given .1) in omega (arith, w)
 
 part-put-token-end : tie.Need-part-put-token-end Inv-loop μ-loop
-part-put-token-end c = let w = tokening-within _ _ _ _ _ (c .before .before .before .before .before .loop .inv) _ _ (sym (c .before .before .before .before .next-token .ensures) ∙ c .before .before .step .given .1) in omega (arith, w)
+part-put-token-end c = let w = step-fits _ _ _ _ (sym (c .before .before .before .before .next-token .ensures) ∙ c .before .before .step .given .1) in omega (arith, w)
 
 put-token-requires : tie.Need-put-token-requires Inv-loop μ-loop
 put-token-requires c κs = tokening-room _ _ _ _ _ (c .before .before .before .before .before .before .loop .inv) _ _ (sym (c .before .before .before .before .before .next-token .ensures) ∙ c .before .before .before .step .given .1)
 
 mul-to : tie.Need-mul-to Inv-loop μ-loop
-mul-to c = let w = tokening-within _ _ _ _ _ (c .before .before .before .before .before .before .before .before .before .loop .inv) _ _ (sym (c .before .before .before .before .before .before .before .before .next-token .ensures) ∙ c .before .before .before .before .before .before .step .given .1) in let t = tokening-room _ _ _ _ _ (c .before .before .before .before .before .before .before .before .before .loop .inv) _ _ (sym (c .before .before .before .before .before .before .before .before .next-token .ensures) ∙ c .before .before .before .before .before .before .step .given .1) in omega (arith, w, t .room, t .small)
+mul-to c = let w = step-fits _ _ _ _ (sym (c .before .before .before .before .before .before .before .before .next-token .ensures) ∙ c .before .before .before .before .before .before .step .given .1) in let t = tokening-room _ _ _ _ _ (c .before .before .before .before .before .before .before .before .before .loop .inv) _ _ (sym (c .before .before .before .before .before .before .before .before .next-token .ensures) ∙ c .before .before .before .before .before .before .step .given .1) in omega (arith, w, t .room, t .small)
 
 add-to : tie.Need-add-to Inv-loop μ-loop
-add-to c = let w = tokening-within _ _ _ _ _ (c .before .before .before .before .before .before .before .before .before .loop .inv) _ _ (sym (c .before .before .before .before .before .before .before .before .next-token .ensures) ∙ c .before .before .before .before .before .before .step .given .1) in let t = tokening-room _ _ _ _ _ (c .before .before .before .before .before .before .before .before .before .loop .inv) _ _ (sym (c .before .before .before .before .before .before .before .before .next-token .ensures) ∙ c .before .before .before .before .before .before .step .given .1) in omega (arith, w, t .room, t .small)
+add-to c = let w = step-fits _ _ _ _ (sym (c .before .before .before .before .before .before .before .before .next-token .ensures) ∙ c .before .before .before .before .before .before .step .given .1) in let t = tokening-room _ _ _ _ _ (c .before .before .before .before .before .before .before .before .before .loop .inv) _ _ (sym (c .before .before .before .before .before .before .before .before .next-token .ensures) ∙ c .before .before .before .before .before .before .step .given .1) in omega (arith, w, t .room, t .small)
 
 add-to-2 : tie.Need-add-to-2 Inv-loop μ-loop
-add-to-2 c = let w = tokening-within _ _ _ _ _ (c .before .before .before .before .before .before .before .before .before .loop .inv) _ _ (sym (c .before .before .before .before .before .before .before .before .next-token .ensures) ∙ c .before .before .before .before .before .before .step .given .1) in let t = tokening-room _ _ _ _ _ (c .before .before .before .before .before .before .before .before .before .loop .inv) _ _ (sym (c .before .before .before .before .before .before .before .before .next-token .ensures) ∙ c .before .before .before .before .before .before .step .given .1) in omega (arith, w, t .room, t .small)
+add-to-2 c = let w = step-fits _ _ _ _ (sym (c .before .before .before .before .before .before .before .before .next-token .ensures) ∙ c .before .before .before .before .before .before .step .given .1) in let t = tokening-room _ _ _ _ _ (c .before .before .before .before .before .before .before .before .before .loop .inv) _ _ (sym (c .before .before .before .before .before .before .before .before .next-token .ensures) ∙ c .before .before .before .before .before .before .step .given .1) in omega (arith, w, t .room, t .small)
 
 loop-less : tie.Need-loop-less Inv-loop μ-loop
-loop-less c = let w = tokening-within _ _ _ _ _ (c .before .before .before .before .before .before .before .before .before .loop .inv) _ _ (sym (c .before .before .before .before .before .before .before .before .next-token .ensures) ∙ c .before .before .before .before .before .before .step .given .1) in let t = tokening-room _ _ _ _ _ (c .before .before .before .before .before .before .before .before .before .loop .inv) _ _ (sym (c .before .before .before .before .before .before .before .before .next-token .ensures) ∙ c .before .before .before .before .before .before .step .given .1) in omega (arith, w, t .room, t .small)
+loop-less c = let w = step-fits _ _ _ _ (sym (c .before .before .before .before .before .before .before .before .next-token .ensures) ∙ c .before .before .before .before .before .before .step .given .1) in let t = tokening-room _ _ _ _ _ (c .before .before .before .before .before .before .before .before .before .loop .inv) _ _ (sym (c .before .before .before .before .before .before .before .before .next-token .ensures) ∙ c .before .before .before .before .before .before .step .given .1) in omega (arith, w, t .room, t .small)
 
 loop-again : tie.Need-loop-again Inv-loop μ-loop
 loop-again c = tokening-next _ _ _ _ _ (c .before .before .before .before .before .before .before .before .before .loop .inv) _ _ (sym (c .before .before .before .before .before .before .before .before .next-token .ensures) ∙ c .before .before .before .before .before .before .step .given .1) _ (c .before .before .put-token .ensures)

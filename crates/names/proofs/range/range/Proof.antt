@@ -1,17 +1,16 @@
 -- `range` meets its contract: behind the place reached no brace opens, so the first one found from the end is the last.
-use mathlib.Core.Path.{_≡_}
-use mathlib.Core.Bool.{true}
 use Prim.Native.Nat.{_≤_}
 use native.Mathlib.Omega.{arith}
 use lib.ListN.{length, drop}
 use denote.Ref.{now}
 use borrow.Author.Needs.{needs}
-use Rattle.names.proofs.Bracing.{absent, none-start, none-step, found-step, range-none}
+use Rattle.names.proofs.Ranges.{Absent}
+use Rattle.names.proofs.Bracing.{none-start, none-step, found-step, range-none}
 use Rattle.names.proofs.range.range.Statement.{statement}
 use Rattle.names.proofs.range.range.Tie as tie
 
 abbrev Inv-loop : tie.InvT-loop
-Inv-loop s i₀ i = (i ≤ length s) × (absent 123 (drop i s) ≡ true)
+Inv-loop s i₀ i = (i ≤ length s) × Absent 123 (drop i s)
 
 abbrev μ-loop : tie.MeasureT-loop
 μ-loop s i₀ i = i

@@ -56,7 +56,7 @@ loop-again-2 : tie.Need-loop-again-2 Inv-loop μ-loop
 loop-again-2 c = strip-passed _ _ _ _ _ _ _ (c .before .before .before .before .loop-test .taken) (c .before .skips .ensures) (c .before .before .before .before .before .loop .inv) (sym (c .before .before .is-kept .ensures) ∙ c .if2 .left)
 
 same-length : tie.Need-same-length Inv-loop μ-loop
-same-length c = let d = strip-done _ _ _ _ _ _ (c .loop-test .left) (c .before .loop .inv) in ap length d ∙ length-answered _ _ (c .before .loop .inv .room)
+same-length c = let d = strip-done _ _ _ _ _ _ (c .loop-test .left) (c .before .loop .inv) in ap length d ∙ length-answered _ _ (c .before .loop .inv .filling .room)
 
 returns-2 : tie.Need-returns-2 Inv-loop μ-loop
 returns-2 c = writing-done _ _ _ (c .before .before .before .stripped-length .ensures .0) _ (c .before .before .if1 .left) (strip-done _ _ _ _ _ _ (c .loop-test .left) (c .before .loop .inv))
