@@ -1,0 +1,4 @@
+pub mod Buckets
+pub mod Chaining
+pub mod Seen
+pub mod Types

@@ -1,0 +1,4 @@
+pub mod Atomics
+pub mod Paths
+pub mod Plain
+pub mod Types

@@ -1,0 +1,109 @@
+// The node of a full name: plc.rs `info`.
+use crate::member::member_of;
+use fields::Written;
+use fields::write::put_bytes;
+use names::strip::strip;
+use names::token::place_of;
+use names::walk::program_end;
+use nodes::Found;
+use nodes::find::find_tag;
+ghost use mathlib.Core.Path.{_≡_};
+ghost use Prim.Native.Nat.{_≤_};
+ghost use lib.ListN.{length};
+ghost use Rattle.fields.specs.Writing.{answered};
+ghost use Rattle.fields.specs.Places.{valueAt};
+ghost use Rattle.catalog.specs.Catalog.{node, catalogOf};
+ghost use Rattle.names.specs.Listing.{longestName};
+ghost use Rattle.nodes.specs.Reading.{foundIn};
+ghost use Rattle.lookup.specs.Info.{prefixLength, lookedUp};
+ghost use Rattle.lookup.specs.Told.{plainName, nodeOfPath, membersFrom};
+
+// How many bytes the program part has, 0 where no dot ends it.
+fn prefix_end(name: &[u8]) -> usize
+    ensures { λ r. ⌜ (r ≡ prefixLength (now (name .entry))) × (r ≤ length (now (name .entry))) ⌝ }
+{
+    let e = program_end(name);
+    if e == 0 {
+        return 0;
+    }
+    if name.len() < e {
+        return 0;
+    }
+    if name[e - 1] == b'.' {
+        return e;
+    }
+    0
+}
+
+// A name with the brackets behind its first h bytes left out, from the front of a buffer on; how many bytes it has.
+fn spell(name: &[u8], h: usize, out: &mut [u8]) -> usize
+    requires { ⌜ (h ≤ length (now name)) × (length (now name) ≤ longestName) × (length (now name) ≤ length (now out)) ⌝ }
+    ensures size { λ r. ⌜ (r ≡ length (plainName (now (name .entry)) h)) × (r ≤ length (now (name .entry))) ⌝ }
+    ensures memory { λ r. ⌜ now (out .exit) ≡ answered (plainName (now (name .entry)) h) (now (out .entry)) ⌝ }
+{
+    let mut rest = [0; 136];
+    let w = strip(&name[h..], &mut rest);
+    match w {
+        Written::Refused(_) => 0,
+        Written::Done(n) => {
+            put_bytes(out, 0, &name[..h]);
+            put_bytes(out, h, &rest[..n]);
+            h + n
+        }
+    }
+}
+
+// The members of a node that a path names, of which a part ends at the place from.
+fn members_of(s: &[u8], t: &[u8], from: usize, tag: usize) -> Found
+    ensures { λ r. ⌜ foundIn (now (s .entry)) r ≡ membersFrom (catalogOf (now (s .entry))) (valueAt node (now (s .entry)) tag) (now (t .entry)) from ⌝ }
+{
+    let mut e = from;
+    let mut p = tag;
+    while e < t.len() {
+        let start = e + 1;
+        let end = place_of(t, start, b'.');
+        let found = member_of(s, p, &t[start..end]);
+        match found {
+            Found::At(q) => {
+                p = q;
+                e = end;
+            }
+            Found::Nowhere => {
+                return Found::Nowhere;
+            }
+        }
+    }
+    Found::At(p)
+}
+
+// The node of a name without brackets, of which the program part has h bytes.
+fn node_of_path(s: &[u8], t: &[u8], h: usize) -> Found
+    requires { ⌜ h ≤ length (now t) ⌝ }
+    ensures { λ r. ⌜ foundIn (now (s .entry)) r ≡ nodeOfPath (catalogOf (now (s .entry))) (now (t .entry)) h ⌝ }
+{
+    let e = place_of(t, h, b'.');
+    let found = find_tag(s, &t[..e]);
+    match found {
+        Found::Nowhere => Found::Nowhere,
+        Found::At(p) => members_of(s, t, e, p),
+    }
+}
+
+// The node of a full name: as a tag first, else through members.
+pub fn info(s: &[u8], name: &[u8]) -> Found
+    ensures { λ r. ⌜ foundIn (now (s .entry)) r ≡ lookedUp (catalogOf (now (s .entry))) (now (name .entry)) ⌝ }
+{
+    if 136 < name.len() {
+        return Found::Nowhere;
+    }
+    let tag = find_tag(s, name);
+    match tag {
+        Found::At(p) => Found::At(p),
+        Found::Nowhere => {
+            let mut plain = [0; 136];
+            let h = prefix_end(name);
+            let n = spell(name, h, &mut plain);
+            node_of_path(s, &plain[..n], h)
+        }
+    }
+}

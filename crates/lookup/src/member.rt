@@ -1,0 +1,57 @@
+// Types by name, and the members of a node's type.
+use fields::check::text_at;
+use fields::check::text_past;
+use fields::number::past;
+use nodes::Found;
+use nodes::find::find_node;
+use nodes::find::is_named;
+use nodes::place::member_count;
+use nodes::place::members_count_place;
+use nodes::place::type_count;
+use nodes::place::type_past;
+use nodes::place::types_start;
+ghost use mathlib.Core.Path.{_≡_};
+ghost use Rattle.fields.specs.Places.{valueAt};
+ghost use Rattle.catalog.specs.Catalog.{node, typeDef, catalogOf};
+ghost use Rattle.catalog.specs.Finding.{typeNamed};
+ghost use Rattle.nodes.specs.Reading.{foundIn};
+ghost use Rattle.lookup.specs.Info.{memberCalled, memberStep};
+ghost use Rattle.lookup.specs.Told.{typeIn};
+
+// The type of a name.
+pub fn find_type(s: &[u8], name: &[u8]) -> Found
+    ensures { λ r. ⌜ typeIn (now (s .entry)) r ≡ typeNamed (catalogOf (now (s .entry))) (now (name .entry)) ⌝ }
+{
+    let mut at = types_start(s);
+    let mut k = type_count(s);
+    while 0 < k {
+        if is_named(s, at, name) {
+            return Found::At(at);
+        }
+        at = type_past(s, at);
+        k -= 1;
+    }
+    Found::Nowhere
+}
+
+// The member of the type at a place.
+fn find_member(s: &[u8], at: usize, name: &[u8]) -> Found
+    ensures { λ r. ⌜ foundIn (now (s .entry)) r ≡ memberCalled (now (name .entry)) (valueAt typeDef (now (s .entry)) at) ⌝ }
+{
+    let count = members_count_place(s, at);
+    find_node(s, past(s, count, 2), member_count(s, count), name)
+}
+
+// The member of the node at a place, by the node's type.
+pub fn member_of(s: &[u8], at: usize, name: &[u8]) -> Found
+    ensures { λ r. ⌜ foundIn (now (s .entry)) r ≡ memberStep (catalogOf (now (s .entry))) (valueAt node (now (s .entry)) at) (now (name .entry)) ⌝ }
+{
+    let of = text_at(s, text_past(s, at));
+    let start = of.start;
+    let end = of.end;
+    let found = find_type(s, &s[start..end]);
+    match found {
+        Found::At(p) => find_member(s, p, name),
+        Found::Nowhere => Found::Nowhere,
+    }
+}

@@ -1,0 +1,10 @@
+pub mod Ranges
+pub mod Links
+pub mod Members
+pub mod Resolving
+pub mod Reaching
+pub mod Rounds
+pub mod Walking
+pub mod Markings
+pub mod Answers
+pub mod Examples

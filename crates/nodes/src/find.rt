@@ -1,0 +1,87 @@
+// Nodes by name, front to back. How the search goes is known here alone.
+use crate::Found;
+use crate::place::node_past;
+use crate::place::tag_count;
+use crate::place::tags_start;
+use fields::check::text_at;
+use fields::text::equal;
+use fields::text::equal_ignoring_case;
+ghost use mathlib.Core.Path.{_≡_};
+ghost use Rattle.fields.specs.Text.{same, alike};
+ghost use Rattle.fields.specs.Format.{many};
+ghost use Rattle.fields.specs.Places.{valueAt};
+ghost use Rattle.catalog.specs.Catalog.{node, catalogOf};
+ghost use Rattle.catalog.specs.Finding.{find};
+ghost use Rattle.catalog.specs.Alike.{nameAt};
+ghost use Rattle.nodes.specs.Reading.{foundIn};
+ghost use Rattle.nodes.specs.Lookup.{isNamed, isCalled, nodeNamed, tagOf};
+
+// Whether the name at a place is just this one.
+pub fn is_named(s: &[u8], at: usize, name: &[u8]) -> bool
+    ensures { λ r. ⌜ r ≡ same (nameAt (now (s .entry)) at) (now (name .entry)) ⌝ }
+{
+    let t = text_at(s, at);
+    let start = t.start;
+    let end = t.end;
+    equal(&s[start..end], name)
+}
+
+// Whether the name at a place is this one, case ignored.
+pub fn is_called(s: &[u8], at: usize, name: &[u8]) -> bool
+    ensures { λ r. ⌜ r ≡ alike (nameAt (now (s .entry)) at) (now (name .entry)) ⌝ }
+{
+    let t = text_at(s, at);
+    let start = t.start;
+    let end = t.end;
+    equal_ignoring_case(&s[start..end], name)
+}
+
+// The first of so many nodes of just this name.
+fn find_named(s: &[u8], from: usize, n: usize, name: &[u8]) -> Found
+    ensures { λ r. ⌜ foundIn (now (s .entry)) r ≡ find (isNamed (now (name .entry))) (valueAt (many node n) (now (s .entry)) from) ⌝ }
+{
+    let mut at = from;
+    let mut k = n;
+    while 0 < k {
+        if is_named(s, at, name) {
+            return Found::At(at);
+        }
+        at = node_past(s, at);
+        k -= 1;
+    }
+    Found::Nowhere
+}
+
+// The first of so many nodes of this name, case ignored.
+fn find_called(s: &[u8], from: usize, n: usize, name: &[u8]) -> Found
+    ensures { λ r. ⌜ foundIn (now (s .entry)) r ≡ find (isCalled (now (name .entry))) (valueAt (many node n) (now (s .entry)) from) ⌝ }
+{
+    let mut at = from;
+    let mut k = n;
+    while 0 < k {
+        if is_called(s, at, name) {
+            return Found::At(at);
+        }
+        at = node_past(s, at);
+        k -= 1;
+    }
+    Found::Nowhere
+}
+
+// The node of a name among so many: exact spelling first, then case ignored.
+pub fn find_node(s: &[u8], from: usize, n: usize, name: &[u8]) -> Found
+    ensures { λ r. ⌜ foundIn (now (s .entry)) r ≡ nodeNamed (now (name .entry)) (valueAt (many node n) (now (s .entry)) from) ⌝ }
+{
+    let exact = find_named(s, from, n, name);
+    match exact {
+        Found::At(p) => Found::At(p),
+        Found::Nowhere => find_called(s, from, n, name),
+    }
+}
+
+// The tag of a name.
+pub fn find_tag(s: &[u8], name: &[u8]) -> Found
+    ensures { λ r. ⌜ foundIn (now (s .entry)) r ≡ tagOf (catalogOf (now (s .entry))) (now (name .entry)) ⌝ }
+{
+    find_node(s, tags_start(s), tag_count(s), name)
+}
