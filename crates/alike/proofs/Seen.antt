@@ -12,7 +12,7 @@ use lib.Seq.{getD-set-same, getD-set-other}
 use lib.Dec.{eqb}
 use borrow.Author.Tests.{eqb-true, eqb-false}
 use Rattle.fields.specs.Text.{Text, alike}
-use Rattle.fields.specs.Format.{Format, many}
+use Rattle.fields.specs.Format.{many}
 use Rattle.fields.specs.Places.{told, placeAt}
 use Rattle.fields.specs.declared.Checked.{Checked}
 use Rattle.fields.specs.declared.Checked.the-variants.{Good, Refused}
@@ -23,6 +23,7 @@ use Rattle.catalog.specs.Finding.{any}
 use Rattle.catalog.specs.Alike.{placesFrom, nameAt, firstAlike}
 use Rattle.catalog.proofs.Round.{lawful-node}
 use Rattle.nodes.proofs.Places.{many-place-step}
+use Rattle.nodes.proofs.Standing.{places-none, places-more}
 use Rattle.alike.specs.Buckets.{bucketOf, alikeAt, namesBefore, Chained, here, on, Links, Searched}
 use Rattle.alike.proofs.Buckets.{alike-bucket}
 
@@ -87,16 +88,6 @@ names-next s d j v h =
     rw (add-one j) (ap₂ (λ (t : Text) (l : List Text). t ∷ l) (ap (nameAt s) (getD-set-same d j v 0 h)) (names-set s d j v j (omega arith)))
 
 -- ---- the definitions, one field on
-pub places-none : {A : Type 0} (f : Format A) (s : List ℕ) (k at : ℕ) → k ≤ 0 → placesFrom f k s at ≡ []
-unfolding placesFrom
-places-none f s zero at h = refl
-places-none f s (suc k) at h = absurd (omega arith)
-
-pub places-more : {A : Type 0} (f : Format A) (s : List ℕ) (k at : ℕ) → 0 < k → placesFrom f k s at ≡ at ∷ placesFrom f (k - 1) s (placeAt f s at)
-unfolding placesFrom
-places-more f s zero at h = absurd (omega arith)
-places-more f s (suc k) at h = let z : suc k - 1 ≡ k = omega arith in rw z
-
 -- what the code tells of `k` nodes from a place on, where these names were seen
 abbrev pub nodesTold : List ℕ → List Text → ℕ → ℕ → Checked
 nodesTold s seen k at = told (firstAlike alike s seen (placesFrom node k s at)) (placeAt (many node k) s at)

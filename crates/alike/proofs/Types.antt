@@ -21,7 +21,8 @@ use Rattle.catalog.specs.Finding.{any}
 use Rattle.catalog.specs.Alike.{placesFrom, nameAt, tagPlaces, typesStart, typePlaces, membersCount, memberPlaces, firstAlike, typeAgain, typesAlike, alikeVerdict}
 use Rattle.nodes.proofs.Places.{number-past, type-past}
 use Rattle.alike.specs.Buckets.{namesBefore}
-use Rattle.alike.proofs.Seen.{places-none, places-more, names-next, nodesTold}
+use Rattle.nodes.proofs.Standing.{places-none, places-more}
+use Rattle.alike.proofs.Seen.{names-next, nodesTold}
 
 -- what the code tells of `k` types from a place on, where these names were seen
 abbrev pub typesTold : List ℕ → List Text → ℕ → ℕ → Checked

@@ -46,7 +46,7 @@ pub fn check_choice(s: &[u8], at: usize, max: usize) -> Checked
 }
 
 // The first of n bytes that no text may hold.
-fn check_bytes(s: &[u8], at: usize, n: usize) -> Checked
+pub fn check_bytes(s: &[u8], at: usize, n: usize) -> Checked
     ensures { λ r. ⌜ r ≡ told (textBytes (take n (drop at (now (s .entry)))) at) (at + length (take n (drop at (now (s .entry))))) ⌝ }
 {
     let mut i = at;
@@ -117,7 +117,7 @@ fn digits_over(t: &[u8], at: usize, most: u64) -> bool
 }
 
 // The first index or count above most in the text that stands from a place to the end of t.
-fn check_indexes(t: &[u8], at: usize, most: u64) -> Checked
+pub fn check_indexes(t: &[u8], at: usize, most: u64) -> Checked
     ensures { λ r. ⌜ r ≡ told (indexCheck most (drop at (now (t .entry))) at) (at + length (drop at (now (t .entry)))) ⌝ }
 {
     let mut i = at;

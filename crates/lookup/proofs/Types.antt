@@ -1,50 +1,31 @@
 -- Types by name, and the members of a type: what the code finds at places is what the catalog has.
 -- Assumes nothing.
 use Prim.Native.Nat.{ℕ, _+_, _-_, _≤_, _<_}
-use mathlib.Core.Path.{_≡_, refl, sym, ap, ap₂, _∙_}
+use mathlib.Core.Path.{_≡_, sym, ap, ap₂, _∙_}
 use mathlib.Core.Bool.{Bool, true, false}
 use mathlib.Core.List.{List}
-use mathlib.Core.Option.{Option, none, some}
+use mathlib.Core.Option.{Option}
 use native.Mathlib.Omega.{arith}
 use lib.ListN.{length, take, drop}
 use Rattle.fields.specs.Text.{Text, same}
-use Rattle.fields.specs.Format.{Format, _then_, leading, mapped, many}
-use Rattle.fields.specs.Fields.{number, text, textOf, textPast}
-use Rattle.fields.specs.Files.{fileOf}
-use Rattle.fields.specs.Places.{valueAt, placeAt, part}
-use Rattle.fields.proofs.Lawful.{Lawful, lawful-many}
-use Rattle.fields.proofs.Reading.{then-value, then-place, leading-value, mapped-value, many-value-none, many-value-more, text-value, number-value}
+use Rattle.fields.specs.Format.{many}
+use Rattle.fields.specs.Fields.{number}
+use Rattle.fields.specs.Places.{valueAt, placeAt}
 use Rattle.names.specs.Pieces.{andThen}
-use Rattle.catalog.specs.Catalog.{Node, TypeDef, Catalog, name, aoi, fromKind, nodeFields, node, members, fromAoi, typeFields, typeDef, counts, countsOf, tagsAndTypes, catalog, catalogOf}
+use Rattle.catalog.specs.Catalog.{TypeDef, name, node, members, typeDef, counts, catalog, catalogOf}
 use Rattle.catalog.specs.Finding.{find, isTyped, typeNamed}
 use Rattle.catalog.specs.Alike.{nameAt, typesStart, membersCount}
-use Rattle.catalog.proofs.Round.{lawful-name, lawful-type-size, lawful-aoi, lawful-node, lawful-type, lawful-counts}
+use Rattle.catalog.proofs.Round.{lawful-type}
 use Rattle.nodes.specs.Reading.{foundIn}
 use Rattle.nodes.specs.Lookup.{nodeNamed}
 use Rattle.nodes.specs.declared.Found.{Found}
 use Rattle.nodes.specs.declared.Found.the-variants.{At, Nowhere}
 use Rattle.nodes.proofs.Finds.{search-none, search-here, search-later}
-use Rattle.nodes.proofs.Places.{counted-value, name-past}
+use Rattle.nodes.proofs.Standing.{types-are, typed, members-left}
 use Rattle.lookup.specs.Info.{memberCalled, memberStep}
 use Rattle.lookup.specs.Told.{typeIn}
 
 -- ---- the types of a file
-types-are : (s : List ℕ) → catalogOf s .types ≡ valueAt (many typeDef (valueAt counts s 1 .1)) s (typesStart s)
-unfolding catalogOf fileOf catalog mapped valueAt tagsAndTypes typesStart
-types-are s =
-    ap (λ (x : List Node × List TypeDef). x .1) (leading-value counts countsOf tagsAndTypes s 1 lawful-counts)
-    ∙ ap (λ (x : List Node × List TypeDef). x .1)
-    (then-value (many node (valueAt counts s 1 .0)) (many typeDef (valueAt counts s 1 .1)) s (placeAt counts s 1) (lawful-many node lawful-node (valueAt counts s 1 .0)))
-
-type-name : (s : List ℕ) (at : ℕ) → nameAt s at ≡ valueAt typeDef s at .name
-unfolding typeDef nameAt
-type-name s at =
-    sym (ap (λ (x : TypeDef). x .name) (mapped-value _ _ typeFields s at) ∙ ap (λ x. x .0) (then-value name (number 2 65535 then fromAoi) s at lawful-name))
-
-typed : (s : List ℕ) (at : ℕ) (w : Text) → same (nameAt s at) w ≡ isTyped w (valueAt typeDef s at)
-unfolding isTyped
-typed s at w = ap (λ x. same x w) (type-name s at)
-
 -- what is left of the types gives what all of them give
 pub types-start : (s : List ℕ) (w : Text) (p n : ℕ) → p ≡ typesStart s → n ≡ valueAt counts s 1 .1 → find (isTyped w) (valueAt (many typeDef n) s p) ≡ typeNamed (catalogOf s) w
 unfolding typeNamed
@@ -63,28 +44,13 @@ module _ (s : List ℕ) (w : Text) (at k : ℕ) (all : Option TypeDef) (i : find
   type-none h = search-none typeDef lawful-type (isTyped w) s at k h ∙ i
 
 -- ---- the members of a type
-members-are : (s : List ℕ) (at : ℕ) → valueAt typeDef s at .members ≡ valueAt members s (membersCount s at)
-unfolding typeDef membersCount
-members-are s at =
-    ap (λ (x : TypeDef). x .members) (mapped-value _ _ typeFields s at)
-    ∙ ap (λ x. x .1 .1 .1) (then-value name (number 2 65535 then fromAoi) s at lawful-name)
-    ∙ ap (λ x. x .1 .1) (then-value (number 2 65535) fromAoi s (placeAt name s at) lawful-type-size)
-    ∙ ap (λ x. x .1) (then-value aoi members s (placeAt (number 2 65535) s (placeAt name s at)) lawful-aoi)
-
 pub member-found : (s : List ℕ) (w : Text) (at c p n : ℕ) (r : Found) → c ≡ membersCount s at → p ≡ c + length (take 2 (drop c s)) → n ≡ valueAt (number 2 256) s c
     → foundIn s r ≡ nodeNamed w (valueAt (many node n) s p) → foundIn s r ≡ memberCalled w (valueAt typeDef s at)
 unfolding memberCalled
 member-found s w at c p n r e g h q =
-    q ∙ ap (nodeNamed w) (sym (counted-value node s c n p 2 256 (omega arith) (h ∙ number-value s c 256 2) g) ∙ ap (valueAt members s) e ∙ sym (members-are s at))
+    q ∙ ap (nodeNamed w) (members-left s at c n p e g h)
 
 -- ---- the type of a node
-pub type-of : (s : List ℕ) (at p a b : ℕ) → p ≡ textPast (drop at s) at → part a b s ≡ textOf (drop p s) → part a b s ≡ valueAt node s at .typeName
-unfolding node
-type-of s at p a b e g =
-    g ∙ sym (text-value s p 128) ∙ ap (valueAt name s) (name-past s at p e)
-    ∙ sym (ap (λ (x : Node). x .typeName) (mapped-value _ _ nodeFields s at) ∙ ap (λ x. x .1 .0) (then-value name (name then fromKind) s at lawful-name)
-    ∙ ap (λ x. x .0) (then-value name fromKind s (placeAt name s at) lawful-name))
-
 module _ (s : List ℕ) (at : ℕ) (w t : Text) (e : t ≡ valueAt node s at .typeName) (f : Found) (g : typeIn s f ≡ typeNamed (catalogOf s) t) where
   step-is : memberStep (catalogOf s) (valueAt node s at) w ≡ andThen (typeIn s f) (memberCalled w)
   unfolding memberStep

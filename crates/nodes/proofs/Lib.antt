@@ -1,3 +1,4 @@
 pub mod Places
 pub mod Values
 pub mod Finds
+pub mod Standing

@@ -1,12 +1,24 @@
 // Replays the stored answers of the Rust: each case of data/ is put to the proved code, and what it answers is compared byte for byte.
 // It prints a line for each file. How the cases were made stands in data/README.md.
+use fields::Checked;
 use fields::Part;
 use fields::Width;
 use fields::Written;
+use fields::check::text_past;
 use fields::number::raw;
 use fields::text::equal;
+use fields::write::put_bytes;
+use fields::write::put_number;
 use libc::STDOUT_FILENO;
-ghost use Prim.Native.Nat.{_≤_};
+use lookup::Bytes;
+use lookup::info::info;
+use nodes::Found;
+use nodes::place::node_past;
+use queries::check_catalog;
+use sizes::reply::element_size;
+use sizes::reply::read_size;
+ghost use mathlib.Core.Path.{_≡_};
+ghost use Prim.Native.Nat.{_+_, _≤_};
 ghost use lib.ListN.{length};
 
 // The calls that have stored cases.
@@ -14,6 +26,8 @@ enum Call {
     Tokens,
     Strip,
     Range,
+    Info,
+    Sizes,
 }
 
 // How many cases were put, and how many were answered otherwise.
@@ -24,6 +38,13 @@ struct Tally {
 
 // The byte that a buffer holds before a call.
 const UNTOUCHED: u8 = 170;
+
+// 262,144 zeros: room for a file of cases.
+fn space() -> [u8; 262144]
+    ensures { λ r. ⌜ 262144 ≡ length r ⌝ }
+{
+    [0; 262144]
+}
 
 // Where the bytes of a field stand: a length of four bytes is before them. Past the end there is an empty one.
 fn field(s: &[u8], at: usize) -> Part
@@ -45,6 +66,31 @@ fn field(s: &[u8], at: usize) -> Part
         start,
         end: start + size,
     }
+}
+
+// Whether the cases of a call begin with a catalog.
+fn takes_catalog(call: Call) -> bool {
+    match call {
+        Call::Tokens => false,
+        Call::Strip => false,
+        Call::Range => false,
+        Call::Info => true,
+        Call::Sizes => true,
+    }
+}
+
+// Where the catalog of the case at a place stands: nothing at that place where the call takes none.
+fn catalog_field(call: Call, s: &[u8], at: usize) -> Part
+    ensures { λ r. ⌜ (r .start ≤ r .end) × (r .end ≤ length (now (s .entry))) ⌝ }
+{
+    if takes_catalog(call) {
+        return field(s, at);
+    }
+    let end = s.len();
+    if end < at {
+        return Part { start: end, end };
+    }
+    Part { start: at, end: at }
 }
 
 // Whether the bytes from a place on are as they were before the call.
@@ -75,20 +121,118 @@ fn wrote(w: Written, out: &[u8], answer: &[u8]) -> bool {
     }
 }
 
+// Writes what a lookup answers: 0; or 1 and the node, from behind its name on.
+fn put_info(catalog: &[u8], name: &[u8], out: &mut [u8]) -> usize {
+    let found = info(catalog, name);
+    match found {
+        Found::Nowhere => {
+            put_number(out, 0, Width::One, 0);
+            1
+        }
+        Found::At(p) => {
+            let start = text_past(catalog, p);
+            let end = node_past(catalog, p);
+            if end < start {
+                return 0;
+            }
+            if catalog.len() < end {
+                return 0;
+            }
+            put_number(out, 0, Width::One, 1);
+            put_bytes(out, 1, &catalog[start..end]);
+            end - start + 1
+        }
+    }
+}
+
+// Writes a size at a place: 0 where it is unknown; or 1 and 8 bytes. It answers the place past it.
+fn put_size(out: &mut [u8], at: usize, size: Bytes) -> usize
+    requires { ⌜ at ≤ 100 ⌝ }
+    ensures { λ r. ⌜ r ≤ at + 9 ⌝ }
+{
+    match size {
+        Bytes::Unknown => {
+            put_number(out, at, Width::One, 0);
+            at + 1
+        }
+        Bytes::Known(n) => {
+            put_number(out, at, Width::One, 1);
+            put_number(out, at + 1, Width::Eight, n);
+            at + 9
+        }
+    }
+}
+
+// Writes the sizes of a read: its request and its reply, then an element of a run.
+fn put_sizes(catalog: &[u8], name: &[u8], out: &mut [u8]) -> usize {
+    let size = read_size(catalog, name);
+    put_number(out, 0, Width::Eight, size.request);
+    put_number(out, 8, Width::Eight, size.reply);
+    put_size(out, 16, element_size(catalog, info(catalog, name)))
+}
+
+// The place past the size that stands at a place of an answer: the answer's end where it is cut off.
+fn size_past(answer: &[u8], at: usize) -> usize
+    ensures { λ r. ⌜ r ≤ length (now (answer .entry)) ⌝ }
+{
+    let end = answer.len();
+    if end <= at {
+        return end;
+    }
+    if answer[at] == 0 {
+        return at + 1;
+    }
+    if end - at < 9 {
+        return end;
+    }
+    at + 9
+}
+
+// How many bytes of an answer are compared. Of the sizes these are the request, the reply and the element.
+fn compared(call: Call, answer: &[u8]) -> usize
+    ensures { λ r. ⌜ r ≤ length (now (answer .entry)) ⌝ }
+{
+    let end = answer.len();
+    match call {
+        Call::Tokens => end,
+        Call::Strip => end,
+        Call::Range => end,
+        Call::Info => end,
+        Call::Sizes => size_past(answer, 16),
+    }
+}
+
 // The call itself.
-fn made(call: Call, name: &[u8], out: &mut [u8]) -> Written {
+fn made(call: Call, catalog: &[u8], name: &[u8], out: &mut [u8]) -> Written {
     match call {
         Call::Tokens => names::listing::tokenize(name, out),
         Call::Strip => names::strip::strip(name, out),
         Call::Range => names::listing::list_range(name, out),
+        Call::Info => Written::Done(put_info(catalog, name, out)),
+        Call::Sizes => Written::Done(put_sizes(catalog, name, out)),
+    }
+}
+
+// Whether a catalog is accepted.
+fn is_catalog(catalog: &[u8]) -> bool {
+    let v = check_catalog(catalog);
+    match v {
+        Checked::Good(_) => true,
+        Checked::Refused(_) => false,
     }
 }
 
 // Whether a call gives the stored answer.
-fn agrees(call: Call, name: &[u8], answer: &[u8]) -> bool {
+fn agrees(call: Call, catalog: &[u8], name: &[u8], answer: &[u8]) -> bool {
+    if takes_catalog(call) {
+        if !is_catalog(catalog) {
+            return false;
+        }
+    }
     let mut out = [UNTOUCHED; 2048];
-    let w = made(call, name, &mut out);
-    wrote(w, &out, answer)
+    let w = made(call, catalog, name, &mut out);
+    let end = compared(call, answer);
+    wrote(w, &out, &answer[0..end])
 }
 
 // One case more.
@@ -106,7 +250,7 @@ fn counted(tally: Tally, agreed: bool) -> Tally {
     }
 }
 
-// The cases of a file: a name and an answer each.
+// The cases of a file: a catalog if the call takes one, a name and an answer each.
 fn replay(call: Call, s: &[u8]) -> Tally {
     let mut tally = Tally {
         cases: 0,
@@ -114,13 +258,21 @@ fn replay(call: Call, s: &[u8]) -> Tally {
     };
     let mut at = 0;
     while at < s.len() {
-        let name = field(s, at);
+        let catalog = catalog_field(call, s, at);
+        let catalog_start = catalog.start;
+        let catalog_end = catalog.end;
+        let name = field(s, catalog_end);
         let name_start = name.start;
         let name_end = name.end;
         let answer = field(s, name_end);
         let answer_start = answer.start;
         let answer_end = answer.end;
-        let agreed = agrees(call, &s[name_start..name_end], &s[answer_start..answer_end]);
+        let agreed = agrees(
+            call,
+            &s[catalog_start..catalog_end],
+            &s[name_start..name_end],
+            &s[answer_start..answer_end],
+        );
         tally = counted(tally, agreed);
         if answer_end <= at {
             return tally;
@@ -142,7 +294,7 @@ fn print(path: &[u8], tally: Tally) {
 
 // Replays the file of a call.
 fn run(call: Call, path: &[u8]) {
-    let mut buf = io::large_buffer();
+    let mut buf = space();
     let fd = os::open_read(path);
     if fd < 0 {
         os::fail(path);
@@ -150,7 +302,7 @@ fn run(call: Call, path: &[u8]) {
     }
     let n = io::read_full(fd, &mut buf);
     libc::close(fd);
-    if n == 65536 {
+    if n == 262144 {
         io::write_all(STDOUT_FILENO, b"longer than the buffer: ");
     }
     print(path, replay(call, &buf[..n]));
@@ -160,4 +312,6 @@ fn main() {
     run(Call::Tokens, b"tokens.cases");
     run(Call::Strip, b"strip.cases");
     run(Call::Range, b"range.cases");
+    run(Call::Info, b"info.cases");
+    run(Call::Sizes, b"sizes.cases");
 }

@@ -14,6 +14,9 @@ abbrev μ-loop : tie.MeasureT-loop
 loop-holds : tie.Need-loop-holds Inv-loop μ-loop
 loop-holds c = tt
 
+catalog-field-requires : tie.Need-catalog-field-requires Inv-loop μ-loop
+catalog-field-requires c κs = search needs
+
 field-requires : tie.Need-field-requires Inv-loop μ-loop
 field-requires c κs = search needs
 
@@ -37,6 +40,15 @@ part-agrees-start-2 c = search needs
 
 part-agrees-end-2 : tie.Need-part-agrees-end-2 Inv-loop μ-loop
 part-agrees-end-2 c = search needs
+
+sub-agrees-3 : tie.Need-sub-agrees-3 Inv-loop μ-loop
+sub-agrees-3 c = search needs
+
+part-agrees-start-3 : tie.Need-part-agrees-start-3 Inv-loop μ-loop
+part-agrees-start-3 c = search needs
+
+part-agrees-end-3 : tie.Need-part-agrees-end-3 Inv-loop μ-loop
+part-agrees-end-3 c = search needs
 
 agrees-requires : tie.Need-agrees-requires Inv-loop μ-loop
 agrees-requires c κs = search needs
@@ -63,6 +75,7 @@ replay-spec =
     Inv-loop
     μ-loop
     loop-holds
+    catalog-field-requires
     field-requires
     field-requires-2
     sub-agrees
@@ -71,6 +84,9 @@ replay-spec =
     sub-agrees-2
     part-agrees-start-2
     part-agrees-end-2
+    sub-agrees-3
+    part-agrees-start-3
+    part-agrees-end-3
     agrees-requires
     counted-requires
     returns

@@ -1,0 +1,163 @@
+-- The checks before a question, one behind the other, and the answer of a lookup by what was found.
+-- Assumes nothing.
+use Prim.Native.Nat.{ℕ, _+_, _≤_, _<_}
+use mathlib.Core.Path.{_≡_, refl, sym, ap, _∙_}
+use mathlib.Core.Bool.{Bool, true, false, cond}
+use mathlib.Core.List.{List}
+use mathlib.Core.Option.{Option, none, some}
+use native.Mathlib.Omega.{arith}
+use lib.Dec.{ltb}
+use lib.ListN.{length, take, drop}
+use lib.Seq.{take-length}
+use borrow.Author.Tests.{lt-ltb, le-ltb, ltb-false}
+use Rattle.fields.specs.Text.{Text}
+use Rattle.fields.specs.Format.{Verdict, fine, bad, first}
+use Rattle.fields.specs.Fields.{textBytes, indexCheck}
+use Rattle.fields.specs.Places.{told}
+use Rattle.fields.specs.declared.Refusal.{Refusal}
+use Rattle.fields.specs.declared.Refusal.the-variants.{OverLimit}
+use Rattle.fields.specs.declared.Checked.{Checked}
+use Rattle.fields.specs.declared.Checked.the-variants.{Good, Refused}
+use Rattle.fields.proofs.Chains.{told-bad, told-good}
+use Rattle.names.specs.Listing.{longestName}
+use Rattle.catalog.specs.Catalog.{Node, fieldsVerdict}
+use Rattle.catalog.specs.Alike.{alikeVerdict}
+use Rattle.catalog.specs.Nesting.{nestingVerdict}
+use Rattle.catalog.specs.Check.{catalogVerdict}
+use Rattle.fields.specs.Places.{valueAt}
+use Rattle.fields.proofs.Lawful.{first-fine}
+use Rattle.catalog.specs.Catalog.{node, catalogOf}
+use Rattle.nodes.specs.Reading.{nodeIn, foundIn}
+use Rattle.nodes.specs.declared.Node.{Node as Read}
+use Rattle.nodes.specs.declared.Found.{Found as Place}
+use Rattle.nodes.specs.declared.Found.the-variants.{At, Nowhere}
+use Rattle.lookup.specs.Info.{infoOf, lookedUp}
+use Rattle.sizes.specs.Sizes.{Size, readSize}
+use Rattle.sizes.specs.Told.{largestCount, boundedSize}
+use Rattle.sizes.specs.declared.Size.{Size as Told}
+use Rattle.queries.specs.Queries.{measuredOf, lengthVerdict, nameVerdict, queryVerdict, found, answerOf, shownAs, lookedIn, blankNode}
+use Rattle.queries.specs.declared.Looked.{Looked}
+use Rattle.queries.specs.declared.Measured.the-variants.{Bytes, Refused as SizeRefused}
+use Rattle.queries.proofs.Counts.{size-is}
+use Rattle.queries.specs.declared.Outcome.the-variants.{Found, NotThere, Refused as Refuses}
+
+-- ---- a name given by itself
+module _ (s : Text) where
+  -- all of its bytes
+  all-bytes : (p : ℕ) → told (textBytes (take (length s) (drop 0 s)) 0) p ≡ told (textBytes s 0) p
+  all-bytes p = ap (λ l. told (textBytes l 0) p) (take-length s)
+
+  pub name-byte : (r : Refusal) → told (textBytes (take (length s) (drop 0 s)) 0) (0 + length (take (length s) (drop 0 s))) ≡ Refused r → Refused r ≡ told (nameVerdict s) (length s)
+  unfolding nameVerdict
+  name-byte r e = sym (told-bad (textBytes s 0) _ (0 + length (take (length s) (drop 0 s))) (length s) r (sym (all-bytes (0 + length (take (length s) (drop 0 s)))) ∙ e))
+
+  module _ (q : ℕ) (e : told (textBytes (take (length s) (drop 0 s)) 0) (0 + length (take (length s) (drop 0 s))) ≡ Good q) where
+    behind-bytes : told (nameVerdict s) (length s) ≡ told (first (lengthVerdict s) (indexCheck largestCount s 0)) (length s)
+    unfolding nameVerdict
+    behind-bytes = told-good (textBytes s 0) _ (0 + length (take (length s) (drop 0 s))) (length s) q (sym (all-bytes (0 + length (take (length s) (drop 0 s)))) ∙ e) .0
+
+    pub name-long : longestName < length s → Refused (OverLimit 0) ≡ told (nameVerdict s) (length s)
+    unfolding lengthVerdict told first
+    name-long h = sym (behind-bytes ∙ rw (lt-ltb longestName (length s) h))
+
+    pub name-indexes : (r : Checked) → length s ≤ longestName → r ≡ told (indexCheck largestCount (drop 0 s) 0) (0 + length (drop 0 s)) → r ≡ told (nameVerdict s) (length s)
+    unfolding lengthVerdict first
+    name-indexes r h d = let z : 0 + length s ≡ length s = omega arith in d ∙ ap (told (indexCheck largestCount s 0)) z ∙ sym (behind-bytes ∙ rw (le-ltb longestName (length s) h))
+
+-- ---- a catalog file
+module _ (s : List ℕ) where
+  pub catalog-fields : (r : Refusal) → told (fieldsVerdict s) (length s) ≡ Refused r → Refused r ≡ told (catalogVerdict s) (length s)
+  unfolding catalogVerdict
+  catalog-fields r e = sym (told-bad (fieldsVerdict s) _ (length s) (length s) r e)
+
+  module _ (p : ℕ) (e : told (fieldsVerdict s) (length s) ≡ Good p) where
+    behind-fields : told (catalogVerdict s) (length s) ≡ told (first (alikeVerdict s) (nestingVerdict s)) (length s)
+    unfolding catalogVerdict
+    behind-fields = told-good (fieldsVerdict s) _ (length s) (length s) p e .0
+
+    pub catalog-alike : (r : Refusal) → told (alikeVerdict s) (length s) ≡ Refused r → Refused r ≡ told (catalogVerdict s) (length s)
+    catalog-alike r d = sym (behind-fields ∙ told-bad (alikeVerdict s) _ (length s) (length s) r d)
+
+    pub catalog-nesting : (q : ℕ) (r : Checked) → told (alikeVerdict s) (length s) ≡ Good q → r ≡ told (nestingVerdict s) (length s) → r ≡ told (catalogVerdict s) (length s)
+    catalog-nesting q r d f = f ∙ sym (behind-fields ∙ told-good (alikeVerdict s) _ (length s) (length s) q d .0)
+
+-- ---- the catalog, then the name
+module _ (c n : List ℕ) where
+  pub query-catalog : (r : Refusal) → told (catalogVerdict c) (length c) ≡ Refused r → Refused r ≡ told (queryVerdict c n) (length n)
+  unfolding queryVerdict
+  query-catalog r e = sym (told-bad (catalogVerdict c) (nameVerdict n) (length c) (length n) r e)
+
+  pub query-name : (p : ℕ) (r : Checked) → told (catalogVerdict c) (length c) ≡ Good p → r ≡ told (nameVerdict n) (length n) → r ≡ told (queryVerdict c n) (length n)
+  unfolding queryVerdict
+  query-name p r e d = d ∙ sym (told-good (catalogVerdict c) (nameVerdict n) (length c) (length n) p e .0)
+
+-- ---- what a check told
+told-fine : (v : Verdict) (q p : ℕ) → told v q ≡ Good p → v ≡ fine
+unfolding told
+told-fine fine q p e = refl
+told-fine (bad r) q p e = let z : _≡_ {A = ℕ} 0 1 = cc in absurd (omega arith)
+
+told-refused : (v : Verdict) (q : ℕ) (r : Refusal) → told v q ≡ Refused r → v ≡ bad r
+unfolding told
+told-refused fine q r e = let z : _≡_ {A = ℕ} 0 1 = cc in absurd (omega arith)
+told-refused (bad f) q r e = let z : f ≡ r = cc in ap bad z
+
+-- a name that was not refused is not too long, and has no index or count over the limit
+name-fine : (c n : List ℕ) (q p : ℕ) → told (queryVerdict c n) q ≡ Good p → (lengthVerdict n ≡ fine) × (indexCheck largestCount n 0 ≡ fine)
+unfolding queryVerdict nameVerdict
+name-fine c n q p e =
+    let a = first-fine (catalogVerdict c) (nameVerdict n) (told-fine (queryVerdict c n) q p e) in
+    let b = first-fine (textBytes n 0) (first (lengthVerdict n) (indexCheck largestCount n 0)) (a .1) in
+    first-fine (lengthVerdict n) (indexCheck largestCount n 0) (b .1)
+
+pub name-short : (c n : List ℕ) (q p : ℕ) → told (queryVerdict c n) q ≡ Good p → length n ≤ longestName
+unfolding lengthVerdict
+name-short c n q p e = go (ltb longestName (length n)) refl (name-fine c n q p e .0)
+  where
+    go : (t : Bool) → ltb longestName (length n) ≡ t → cond t (bad (OverLimit 0)) fine ≡ fine → length n ≤ longestName
+    go true k f = let z : _≡_ {A = ℕ} 0 1 = cc in absurd (omega arith)
+    go false k f = ltb-false longestName (length n) k
+
+-- ---- the answer of a lookup
+abbrev Empty : Looked → Type 0
+Empty r = (r .outcome ≡ Found → ⊥) → r .node ≡ blankNode
+
+pub shown-missing : (s : List ℕ) (f : Place) (n : Read) → f ≡ Nowhere → n ≡ blankNode
+    → (lookedIn s (record { outcome = NotThere; node = n }) ≡ answerOf fine (foundIn s f)) × Empty (record { outcome = NotThere; node = n })
+unfolding lookedIn shownAs answerOf foundIn
+shown-missing s f n e b = (sym (ap (λ x. answerOf fine (foundIn s x)) e), λ _. b)
+
+pub shown-found : (s : List ℕ) (f : Place) (n : Read) (p : ℕ) → f ≡ At p → nodeIn s n ≡ valueAt node s p
+    → (lookedIn s (record { outcome = Found; node = n }) ≡ answerOf fine (foundIn s f)) × Empty (record { outcome = Found; node = n })
+unfolding lookedIn shownAs answerOf foundIn
+shown-found s f n p e v = (ap found v ∙ sym (ap (λ x. answerOf fine (foundIn s x)) e), λ q. absurd (q refl))
+
+module _ (c n : List ℕ) (o : Option Node) (q : ℕ) where
+  pub asked-refused : (r : Refusal) (b : Read) → told (queryVerdict c n) q ≡ Refused r → b ≡ blankNode
+      → (lookedIn c (record { outcome = Refuses r; node = b }) ≡ answerOf (queryVerdict c n) o) × Empty (record { outcome = Refuses r; node = b })
+  unfolding lookedIn shownAs answerOf
+  asked-refused r b e k = (sym (ap (λ v. answerOf v o) (told-refused (queryVerdict c n) q r e)), λ _. k)
+
+  pub asked-fine : (p : ℕ) (r : Looked) → told (queryVerdict c n) q ≡ Good p → (lookedIn c r ≡ answerOf fine o) × Empty r → (lookedIn c r ≡ answerOf (queryVerdict c n) o) × Empty r
+  asked-fine p r e a = (a .0 ∙ sym (ap (λ v. answerOf v o) (told-fine (queryVerdict c n) q p e)), a .1)
+
+-- what was found by a name that is not too long
+pub looked-up : (c n : List ℕ) (f : Place) (r : Looked) → length n ≤ longestName → foundIn c f ≡ lookedUp (catalogOf c) n
+    → (lookedIn c r ≡ answerOf fine (foundIn c f)) × Empty r → (lookedIn c r ≡ answerOf fine (infoOf (catalogOf c) n)) × Empty r
+unfolding lookedUp
+looked-up c n f r h e a = (a .0 ∙ ap (answerOf fine) (e ∙ rw (le-ltb longestName (length n) h)), a .1)
+
+-- the same by an equation between what was found
+pub same-found : (c : List ℕ) (o : Option Node) (f : Place) (r : Looked) → foundIn c f ≡ o → (lookedIn c r ≡ answerOf fine (foundIn c f)) × Empty r → (lookedIn c r ≡ answerOf fine o) × Empty r
+same-found c o f r e a = (a .0 ∙ ap (answerOf fine) e, a .1)
+
+-- ---- the size of a read
+pub size-refused : (c n : List ℕ) (z : Size) (q : ℕ) (r : Refusal) → told (queryVerdict c n) q ≡ Refused r → SizeRefused r ≡ measuredOf (queryVerdict c n) z
+unfolding measuredOf
+size-refused c n z q r e = sym (ap (λ v. measuredOf v z) (told-refused (queryVerdict c n) q r e))
+
+pub size-fine : (c n : List ℕ) (q p : ℕ) (z : Told) → told (queryVerdict c n) q ≡ Good p → z ≡ boundedSize (catalogOf c) n → Bytes z ≡ measuredOf (queryVerdict c n) (readSize (catalogOf c) n)
+unfolding measuredOf
+size-fine c n q p z e h =
+    ap Bytes (h ∙ size-is (catalogOf c) n (name-short c n q p e) (name-fine c n q p e .1))
+    ∙ sym (ap (λ v. measuredOf v (readSize (catalogOf c) n)) (told-fine (queryVerdict c n) q p e))

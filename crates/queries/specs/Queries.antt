@@ -1,0 +1,71 @@
+-- What a caller asks of a catalog file with a name: the file is checked, then the name, then the answer is that of the catalog.
+-- Assumes nothing: these are definitions.
+use Prim.Native.Nat.{ℕ, _+_}
+use mathlib.Core.Bool.{Bool, cond}
+use mathlib.Core.Path.{_≡_}
+use mathlib.Core.List.{List, [], _∷_}
+use mathlib.Core.Option.{Option, none, some}
+use lib.Dec.{ltb}
+use lib.ListN.{length}
+use Rattle.fields.specs.Text.{Text}
+use Rattle.fields.specs.Format.{Verdict, fine, bad, first}
+use Rattle.fields.specs.Fields.{textBytes, indexCheck}
+use Rattle.fields.specs.declared.Refusal.{Refusal}
+use Rattle.fields.specs.declared.Refusal.the-variants.{OverLimit}
+use Rattle.names.specs.Listing.{longestName}
+use Rattle.catalog.specs.Catalog.{Node, Catalog, catalogOf}
+use Rattle.catalog.specs.Check.{catalogVerdict}
+use Rattle.nodes.specs.Reading.{nodeIn}
+use Rattle.sizes.specs.Sizes.{Size}
+use Rattle.sizes.specs.Told.{largestCount, sizeTold}
+use Rattle.catalog.specs.declared.Kind.the-variants.{Atomic}
+use Rattle.nodes.specs.declared.Maybe.the-variants.{Missing}
+use Rattle.nodes.specs.declared.Node.{Node as Read}
+use Rattle.queries.specs.declared.Looked.{Looked}
+use Rattle.queries.specs.declared.Outcome.{Outcome}
+use Rattle.queries.specs.declared.Outcome.the-variants.{Found, NotThere, Refused}
+use Rattle.queries.specs.declared.Measured.{Measured}
+use Rattle.queries.specs.declared.Measured.the-variants.{Bytes, Refused as SizeRefused}
+
+-- 01, table: 5 of a name that is given by itself
+unfoldable pub lengthVerdict : Text → Verdict
+lengthVerdict s = cond (ltb longestName (length s)) (bad (OverLimit 0)) fine
+
+-- 01, table: 4, 5 and 8 of a name that is given by itself; places are counted from its first byte
+unfoldable pub nameVerdict : Text → Verdict
+nameVerdict s = first (textBytes s 0) (first (lengthVerdict s) (indexCheck largestCount s 0))
+
+-- 01: "Inputs in the order catalog, ..": the catalog, then the name
+unfoldable pub queryVerdict : List ℕ → Text → Verdict
+queryVerdict catalog name = first (catalogVerdict catalog) (nameVerdict name)
+
+-- what a lookup answers: a node, that there is none, or the refusal
+pub data Answer : Type 0 where
+  found : Node → Answer
+  missing : Answer
+  refused : Refusal → Answer
+
+-- the answer of a lookup, its inputs' verdict known
+unfoldable pub answerOf : Verdict → Option Node → Answer
+answerOf fine none = missing
+answerOf fine (some n) = found n
+answerOf (bad r) o = refused r
+
+-- how the code tells it
+unfoldable pub shownAs : List ℕ → Outcome → Read → Answer
+shownAs s Found n = found (nodeIn s n)
+shownAs s NotThere n = missing
+shownAs s (Refused r) n = refused r
+
+-- what a lookup answers, with its node
+unfoldable pub lookedIn : List ℕ → Looked → Answer
+lookedIn s r = shownAs s (r .outcome) (r .node)
+
+-- no node: zeros
+unfoldable pub blankNode : Read
+blankNode = record { name = record { start = 0; end = 0 }; «type_name» = record { start = 0; end = 0 }; kind = Atomic; dims = 0 ∷ 0 ∷ 0 ∷ []; count = 0; id = Missing; size = Missing }
+
+-- 01, "Request size", "Reply size": what a question for a read's size answers
+unfoldable pub measuredOf : Verdict → Size → Measured
+measuredOf fine z = Bytes (sizeTold z)
+measuredOf (bad r) z = SizeRefused r

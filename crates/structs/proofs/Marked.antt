@@ -1,0 +1,151 @@
+-- The size of the first type of a name is known where its mark is 1, and the marks are those of the types that read whole.
+-- What the code reads at places is what the catalog has.
+-- Assumes nothing.
+use Prim.Native.Nat.{ℕ, suc, _+_, _-_, _≤_, _<_}
+use mathlib.Core.Path.{_≡_, refl, sym, ap, ap₂, _∙_}
+use mathlib.Core.Bool.{Bool, true, false, cond}
+use mathlib.Core.List.{List, [], _∷_, _++_, map}
+use mathlib.Core.Option.{Option, none, some}
+use native.Mathlib.Numerals.{add-one}
+use lib.ListN.{length, take, drop, getD, List·getD-eq-default}
+use lib.Dec.{eqb}
+use borrow.Author.Tests.{eq-eqb, ne-eqb}
+use Rattle.fields.specs.Text.{Text, same}
+use Rattle.fields.specs.Format.{_then_, many}
+use Rattle.fields.specs.Fields.{number, whole, limited, textOf, textPast}
+use Rattle.fields.specs.Places.{valueAt, placeAt, part}
+use Rattle.fields.specs.Writing.{answered}
+use Rattle.fields.proofs.Reading.{then-value, mapped-value, many-value-none, many-value-more, number-value}
+use Rattle.names.specs.Pieces.{andThen}
+use Rattle.catalog.specs.Catalog.{Node, TypeDef, Catalog, name, node, fromAoi, typeFields, typeDef, counts, catalogOf}
+use Rattle.catalog.specs.Finding.{find, isStruct, isTyped, typeNamed}
+use Rattle.catalog.specs.Alike.{nameAt, typesStart}
+use Rattle.catalog.specs.Nesting.{readsWhole}
+use Rattle.catalog.proofs.Round.{lawful-name, lawful-type-size, lawful-type}
+use Rattle.nesting.specs.Graph.{mark}
+use Rattle.nodes.specs.Reading.{foundIn}
+use Rattle.nodes.specs.declared.Found.{Found}
+use Rattle.nodes.specs.declared.Found.the-variants.{At, Nowhere}
+use Rattle.nodes.proofs.Places.{name-past}
+use Rattle.nodes.proofs.Standing.{types-are, typed, struct-at, type-name-at}
+use Rattle.types.specs.Whole.{wholeMark, wholeOf, isMarkable, WholeTold}
+use Rattle.lookup.specs.Info.{wholeSize, structSize}
+use Rattle.lookup.specs.Told.{bytesTold}
+use Rattle.lookup.specs.declared.Bytes.{Bytes}
+use Rattle.lookup.specs.declared.Bytes.the-variants.{Known, Unknown}
+use Rattle.structs.specs.Structs.{markedFrom, markedSize, structTold}
+
+-- ---- the marks of the types that read whole
+module _ (c : Catalog) (w : Text) where
+  -- a mark before the others makes the numbers larger by 1
+  mark-before : (m : ℕ) (ms : List ℕ) (ds : List TypeDef) (k : ℕ) → markedFrom (m ∷ ms) w ds (suc k) ≡ markedFrom ms w ds k
+  unfolding markedFrom
+  mark-before m ms [] k = refl
+  mark-before m ms (d ∷ ds) k = ap (λ r. cond (isTyped w d) (cond (eqb (getD ms k 0) 1) (some (d .size)) none) r) (mark-before m ms ds (suc k))
+
+  mark-size : (d : TypeDef) → cond (eqb (wholeMark c d) 1) (some (d .size)) none ≡ wholeSize c d
+  unfolding wholeMark wholeSize mark
+  mark-size d = go (readsWhole c d)
+    where
+      go : (b : Bool) → cond (eqb (mark b) 1) (some (d .size)) none ≡ cond b (some (d .size)) none
+      go true = refl
+      go false = refl
+
+  marks-size : (t : List ℕ) (ds : List TypeDef) → markedFrom (map (wholeMark c) ds ++ t) w ds 0 ≡ andThen (find (isTyped w) ds) (wholeSize c)
+  unfolding markedFrom find andThen
+  marks-size t [] = refl
+  marks-size t (d ∷ ds) = go (isTyped w d) (mark-before (wholeMark c d) (map (wholeMark c) ds ++ t) ds 0 ∙ marks-size t ds)
+    where
+      go : (b : Bool) → markedFrom (wholeMark c d ∷ (map (wholeMark c) ds ++ t)) w ds 1 ≡ andThen (find (isTyped w) ds) (wholeSize c)
+          → cond b (cond (eqb (wholeMark c d) 1) (some (d .size)) none) (markedFrom (wholeMark c d ∷ (map (wholeMark c) ds ++ t)) w ds 1)
+          ≡ andThen (cond b (some d) (find (isTyped w) ds)) (wholeSize c)
+      go true e = mark-size d
+      go false e = e
+
+-- the marks tell what the catalog tells
+pub marked-is : (c : Catalog) (old ms : List ℕ) (n : Node) → ms ≡ answered (wholeOf c) old → markedSize ms c n ≡ structSize c n
+unfolding markedSize structSize answered wholeOf typeNamed
+marked-is c old ms n e =
+    ap (λ x. cond (isStruct (n .kind)) (markedFrom x (n .typeName) (c .types) 0) none) e
+    ∙ ap (λ x. cond (isStruct (n .kind)) x none) (marks-size c (n .typeName) (drop (length (map (wholeMark c) (c .types))) old) (c .types))
+
+-- ---- a type at a place
+pub type-size-at : (s : List ℕ) (at p n : ℕ) → p ≡ textPast (drop at s) at → n ≡ limited 65535 (whole 2 (take 2 (drop p s))) → n ≡ valueAt typeDef s at .size
+unfolding typeDef
+type-size-at s at p n e h =
+    h ∙ sym (number-value s p 65535 2) ∙ ap (valueAt (number 2 65535) s) (name-past s at p e)
+    ∙ sym (ap (λ (x : TypeDef). x .size) (mapped-value _ _ typeFields s at)
+    ∙ ap (λ x. x .1 .0) (then-value name (number 2 65535 then fromAoi) s at lawful-name)
+    ∙ ap (λ x. x .0) (then-value (number 2 65535) fromAoi s (placeAt name s at) lawful-type-size))
+
+-- ---- a mark
+pub mark-missing : (ms : List ℕ) (k : ℕ) → length ms ≤ k → false ≡ eqb (getD ms k 0) 1
+mark-missing ms k h = rw (List·getD-eq-default ms 0 h)
+
+-- ---- the types of a file, front to back
+-- what is left of the types gives what all of them give
+pub marked-start : (ms s : List ℕ) (w : Text) (p n : ℕ) → p ≡ typesStart s → n ≡ valueAt counts s 1 .1
+    → markedFrom ms w (valueAt (many typeDef n) s p) 0 ≡ markedFrom ms w (catalogOf s .types) 0
+marked-start ms s w p n e g = ap (λ x. markedFrom ms w x 0) (ap₂ (λ x y. valueAt (many typeDef x) s y) g e ∙ sym (types-are s))
+
+module _ (ms s : List ℕ) (w : Text) (at n k : ℕ) (all : Option ℕ) (i : markedFrom ms w (valueAt (many typeDef n) s at) k ≡ all) where
+  pub marked-none : n ≤ 0 → Unknown ≡ bytesTold all
+  unfolding markedFrom bytesTold
+  marked-none h = ap bytesTold (sym (ap (λ x. markedFrom ms w x k) (many-value-none typeDef s at n h)) ∙ i)
+
+  module _ (r : Bool) (h : 0 < n) (e : r ≡ same (nameAt s at) w) where
+    first-is : cond r (cond (eqb (getD ms k 0) 1) (some (valueAt typeDef s at .size)) none) (markedFrom ms w (valueAt (many typeDef (n - 1)) s (placeAt typeDef s at)) (suc k)) ≡ all
+    unfolding markedFrom
+    first-is = rw (e, typed s at w) (sym (ap (λ x. markedFrom ms w x k) (many-value-more typeDef s at n lawful-type h)) ∙ i)
+
+    pub marked-here : (m : Bool) (z : ℕ) → r ≡ true → m ≡ eqb (getD ms k 0) 1 → m ≡ true → z ≡ valueAt typeDef s at .size → Known z ≡ bytesTold all
+    unfolding bytesTold
+    marked-here m z y f g q = rw q (ap bytesTold (rw (y, ← f, g) at first-is))
+
+    pub marked-not : (m : Bool) → r ≡ true → m ≡ eqb (getD ms k 0) 1 → m ≡ false → Unknown ≡ bytesTold all
+    unfolding bytesTold
+    marked-not m y f g = ap bytesTold (rw (y, ← f, g) at first-is)
+
+    pub marked-later : (q : ℕ) → r ≡ false → q ≡ placeAt typeDef s at → markedFrom ms w (valueAt (many typeDef (n - 1)) s q) (k + 1) ≡ all
+    marked-later q y p = rw (p, add-one k) (rw y at first-is)
+
+-- ---- a node at a place
+module _ (ms s : List ℕ) (at p q n : ℕ) (e : p ≡ textPast (drop at s) at) (g : q ≡ textPast (drop p s) p) (h : n ≡ limited 2 (whole 1 (take 1 (drop q s)))) (l : n ≤ 2) where
+  pub size-other : (n ≡ 1 → ⊥) → Unknown ≡ bytesTold (markedSize ms (catalogOf s) (valueAt node s at))
+  unfolding markedSize bytesTold
+  size-other x = rw (← struct-at s at p q e g n h l, ne-eqb n 1 x)
+
+  pub size-struct : (a b : ℕ) (r : Bytes) → n ≡ 1 → part a b s ≡ textOf (drop p s) → r ≡ bytesTold (markedFrom ms (part a b s) (catalogOf s .types) 0)
+      → r ≡ bytesTold (markedSize ms (catalogOf s) (valueAt node s at))
+  unfolding markedSize
+  size-struct a b r x y z = rw (← struct-at s at p q e g n h l, eq-eqb n 1 x) (z ∙ ap (λ t. bytesTold (markedFrom ms t (catalogOf s .types) 0)) (type-name-at s at p a b e y))
+
+-- ---- a node that was found
+module _ (ms s : List ℕ) (found : Found) where
+  pub size-nowhere : found ≡ Nowhere → Unknown ≡ bytesTold (andThen (foundIn s found) (markedSize ms (catalogOf s)))
+  unfolding foundIn andThen bytesTold
+  size-nowhere e = sym (ap (λ x. bytesTold (andThen (foundIn s x) (markedSize ms (catalogOf s)))) e)
+
+  pub size-found : (p : ℕ) (r : Bytes) → found ≡ At p → r ≡ bytesTold (markedSize ms (catalogOf s) (valueAt node s p)) → r ≡ bytesTold (andThen (foundIn s found) (markedSize ms (catalogOf s)))
+  unfolding foundIn andThen
+  size-found p r e h = h ∙ sym (ap (λ x. bytesTold (andThen (foundIn s x) (markedSize ms (catalogOf s)))) e)
+
+-- ---- the marks of a file
+module _ (s old ms : List ℕ) (o : Option Node) (t : Bool) (room : length old ≡ 128) (W : WholeTold (catalogOf s) old ms t) where
+  told-is : isMarkable (catalogOf s) 128 ≡ t
+  told-is = sym (W .is ∙ ap (isMarkable (catalogOf s)) room)
+
+  pub told-whole : (r : Bytes) → t ≡ true → r ≡ bytesTold (andThen o (markedSize ms (catalogOf s))) → r ≡ bytesTold (structTold (catalogOf s) o)
+  unfolding structTold andThen
+  told-whole r y h = rw (told-is, y) (h ∙ ap bytesTold (each o))
+    where
+      marks-are : ms ≡ answered (wholeOf (catalogOf s)) old
+      marks-are = rw y at (W .bytes)
+
+      each : (o : Option Node) → andThen o (markedSize ms (catalogOf s)) ≡ andThen o (structSize (catalogOf s))
+      each none = refl
+      each (some n) = marked-is (catalogOf s) old ms n marks-are
+
+  pub told-not : t ≡ false → Unknown ≡ bytesTold (structTold (catalogOf s) o)
+  unfolding structTold bytesTold
+  told-not y = rw (told-is, y)

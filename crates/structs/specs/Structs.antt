@@ -1,0 +1,27 @@
+-- The size of a struct that is read whole, by the marks of the types (01, catalog; plc.rs `struct_size`).
+-- Assumes nothing: these are definitions.
+use Prim.Native.Nat.{ℕ, suc}
+use mathlib.Core.Bool.{cond}
+use mathlib.Core.List.{List, [], _∷_}
+use mathlib.Core.Option.{Option, none, some}
+use lib.ListN.{getD}
+use lib.Dec.{eqb}
+use Rattle.fields.specs.Text.{Text}
+use Rattle.names.specs.Pieces.{andThen}
+use Rattle.catalog.specs.Catalog.{Node, TypeDef, Catalog}
+use Rattle.catalog.specs.Finding.{isStruct, isTyped}
+use Rattle.types.specs.Whole.{isMarkable}
+use Rattle.lookup.specs.Info.{structSize}
+
+-- the size of the first type of a name, if its mark says that it reads whole
+unfoldable pub markedFrom : List ℕ → Text → List TypeDef → ℕ → Option ℕ
+markedFrom ms w [] k = none
+markedFrom ms w (d ∷ ds) k = cond (isTyped w d) (cond (eqb (getD ms k 0) 1) (some (d .size)) none) (markedFrom ms w ds (suc k))
+
+-- plc.rs `struct_size`, by the marks of the types that read whole
+unfoldable pub markedSize : List ℕ → Catalog → Node → Option ℕ
+markedSize ms c n = cond (isStruct (n .kind)) (markedFrom ms (n .typeName) (c .types) 0) none
+
+-- plc.rs `struct_size` of a node that was found; none in a catalog of which no type can be marked
+unfoldable pub structTold : Catalog → Option Node → Option ℕ
+structTold c o = cond (isMarkable c 128) (andThen o (structSize c)) none

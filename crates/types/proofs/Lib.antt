@@ -1,0 +1,4 @@
+pub mod Placing
+pub mod Linking
+pub mod Parting
+pub mod Telling
