@@ -1,10 +1,12 @@
 //! The stored cases: one file a kind, a row of cases, each a row of fields behind a length of 4 bytes. Those made
-//! by hand come first, then generated ones that show something still rare, then any until there are enough.
+//! by hand come first, then generated ones that show something still rare, then any until there are enough. The
+//! damaged catalogs are a file of their own, all made by hand.
 
 use std::collections::HashMap;
 use std::path::Path;
 
 use crate::bytes::Writer;
+use crate::damaged;
 use crate::kinds::{Fields, KINDS, Kind};
 use crate::random::Random;
 
@@ -16,15 +18,20 @@ const LOOKED_AT: usize = 6000;
 const SMALL: usize = 1500;
 const FEW: usize = 12;
 
+/// A file of stored cases.
+struct Stored {
+    name: String,
+    cases: usize,
+    bytes: Vec<u8>,
+}
+
 /// Writes every file; tells their names, numbers of cases and sizes.
 pub fn store(folder: &Path, seed: u64) -> Result<Vec<String>, String> {
     let mut lines = Vec::new();
-    for kind in KINDS {
-        let cases = choose(kind, seed)?;
-        let bytes = file(kind, &cases)?;
-        let path = folder.join(format!("{}.cases", kind.name));
-        std::fs::write(&path, &bytes).map_err(|e| format!("{}: {e}", path.display()))?;
-        lines.push(format!("{}.cases: {} cases, {} bytes", kind.name, cases.len(), bytes.len()));
+    for file in files(seed)? {
+        let path = folder.join(&file.name);
+        std::fs::write(&path, &file.bytes).map_err(|e| format!("{}: {e}", path.display()))?;
+        lines.push(format!("{}: {} cases, {} bytes", file.name, file.cases, file.bytes.len()));
     }
     Ok(lines)
 }
@@ -33,13 +40,21 @@ pub fn store(folder: &Path, seed: u64) -> Result<Vec<String>, String> {
 pub fn stored(folder: &Path, seed: u64) -> Result<(Vec<String>, bool), String> {
     let mut lines = Vec::new();
     let mut all = true;
-    for kind in KINDS {
-        let bytes = file(kind, &choose(kind, seed)?)?;
-        let same = std::fs::read(folder.join(format!("{}.cases", kind.name))).is_ok_and(|old| old == bytes);
+    for file in files(seed)? {
+        let same = std::fs::read(folder.join(&file.name)).is_ok_and(|old| old == file.bytes);
         all &= same;
-        lines.push(format!("{}.cases: {}", kind.name, if same { "same" } else { "different" }));
+        lines.push(format!("{}: {}", file.name, if same { "same" } else { "different" }));
     }
     Ok((lines, all))
+}
+
+fn files(seed: u64) -> Result<Vec<Stored>, String> {
+    let mut files = Vec::new();
+    for kind in KINDS {
+        files.push(answered(kind, &choose(kind, seed)?)?);
+    }
+    files.push(damaged_file());
+    Ok(files)
 }
 
 /// The cases of a kind, without their answers.
@@ -80,13 +95,29 @@ fn note(kind: &Kind, case: &Fields, seen: &mut HashMap<&'static str, usize>) -> 
     Ok(())
 }
 
-fn file(kind: &Kind, cases: &[Fields]) -> Result<Vec<u8>, String> {
+/// The file of a kind, each case with the answer of the Rust.
+fn answered(kind: &Kind, cases: &[Fields]) -> Result<Stored, String> {
     let mut writer = Writer::default();
     for case in cases {
-        for field in case.iter().chain([&(kind.answer)(case)?]) {
-            writer.count(4, field.len());
-            writer.file.extend_from_slice(field);
-        }
+        case.iter().for_each(|field| put(&mut writer, field));
+        put(&mut writer, &(kind.answer)(case)?);
     }
-    Ok(writer.file)
+    Ok(Stored { name: format!("{}.cases", kind.name), cases: cases.len(), bytes: writer.file })
+}
+
+/// The file of damaged catalogs, laid out as cases with a catalog and a name: the name is empty.
+fn damaged_file() -> Stored {
+    let mut writer = Writer::default();
+    let cases = damaged::all();
+    for case in &cases {
+        put(&mut writer, &case.file);
+        put(&mut writer, &[]);
+        put(&mut writer, &case.answer());
+    }
+    Stored { name: "damaged.cases".to_owned(), cases: cases.len(), bytes: writer.file }
+}
+
+fn put(writer: &mut Writer, field: &[u8]) {
+    writer.count(4, field.len());
+    writer.file.extend_from_slice(field);
 }

@@ -8,20 +8,19 @@ use Rattle.fields.specs.Refusals.{numberOf, returnedOf}
 use Rattle.fields.specs.Writing.{buffer}
 use Rattle.fields.specs.declared.Refusal.{Refusal}
 use Rattle.fields.specs.declared.Written.{Written}
-use Rattle.fields.specs.declared.Written.the-variants.{Done, Refused}
-use Rattle.embed.specs.Returned.{low, returned}
+use Rattle.embed.specs.Returned.{low, refusedAs, returned}
 
 pub low-is : (n : ℕ) → (n % 72057594037927936 ≡ low n) × (n % 72057594037927936 < 72057594037927936)
 unfolding low
 low-is n = (refl, omega arith)
 
-pub returned-done : (w : Written) (n r : ℕ) → w ≡ Done n → r ≡ low n → r ≡ returned w
-unfolding returned
-returned-done w n r e q = rw e q
+pub refused-is : (f : Refusal) (k p r : ℕ) → k ≡ numberOf f → p ≡ returnedOf f → r ≡ low p → k * 72057594037927936 + r ≡ refusedAs f
+unfolding refusedAs
+refused-is f k p r a b q = rw (← a, ← b, ← q)
 
-pub returned-refused : (w : Written) (f : Refusal) (k p r : ℕ) → w ≡ Refused f → k ≡ numberOf f → p ≡ returnedOf f → r ≡ low p → k * 72057594037927936 + r ≡ returned w
-unfolding returned
-returned-refused w f k p r e a b q = rw (e, ← a, ← b, ← q)
+-- an answer by its way
+pub by-way : {A : Type 0} (tell : A → ℕ) (w v : A) (r : ℕ) → w ≡ v → r ≡ tell v → r ≡ tell w
+by-way tell w v r e q = rw e q
 
 -- the answer of the call, told as a number
 pub exported : (x w : Written) (file old out : List ℕ) (r : ℕ) → (w ≡ x) × (out ≡ buffer w file old) → r ≡ returned w → (r ≡ returned x) × (out ≡ buffer x file old)

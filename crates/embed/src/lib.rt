@@ -1,15 +1,28 @@
 // The functions exported to C, on numbers and byte slices alone. Each returns one number of 64 bits: its top byte is the refusal's
 // number, 0 where the call was done, and its low 56 bits are what is returned. A slice is passed as a pointer and a length.
+use fields::Checked;
+use fields::Refusal;
 use fields::Written;
 use names::listing::list_range;
 use names::listing::tokenize;
+use queries::Measured;
+use queries::WholeSize;
+use queries::check_catalog;
 ghost use mathlib.Core.Path.{_≡_};
 ghost use Prim.Native.Nat.{_<_};
 ghost use Rattle.fields.specs.Format.{fine};
 ghost use Rattle.fields.specs.Writing.{writing, buffer};
 ghost use Rattle.names.specs.Strip.{stripped};
 ghost use Rattle.names.specs.Listing.{nameCheck, tokenListing, rangeListing};
-ghost use Rattle.embed.specs.Returned.{low, returned};
+ghost use lib.ListN.{length};
+ghost use Rattle.fields.specs.Places.{told};
+ghost use Rattle.names.specs.Pieces.{andThen};
+ghost use Rattle.catalog.specs.Catalog.{catalogOf};
+ghost use Rattle.catalog.specs.Check.{catalogVerdict};
+ghost use Rattle.lookup.specs.Info.{infoOf, structSize};
+ghost use Rattle.sizes.specs.Sizes.{readSize};
+ghost use Rattle.queries.specs.Queries.{queryVerdict, measuredOf, wholeOf};
+ghost use Rattle.embed.specs.Returned.{low, refusedAs, returned, checkedAs, requestAs, replyAs, wholeAs};
 
 // What fits into 56 bits.
 fn low_bits(n: usize) -> u64
@@ -18,13 +31,20 @@ fn low_bits(n: usize) -> u64
     (n % 72057594037927936) as u64
 }
 
+// A refusal as one number.
+fn refusal(r: Refusal) -> u64
+    ensures { λ n. ⌜ n ≡ refusedAs r ⌝ }
+{
+    (r.number() as u64) * 72057594037927936 + low_bits(r.returned())
+}
+
 // A call's answer as one number.
 fn encode(w: Written) -> u64
     ensures { λ r. ⌜ r ≡ returned w ⌝ }
 {
     match w {
         Written::Done(n) => low_bits(n),
-        Written::Refused(r) => (r.number() as u64) * 72057594037927936 + low_bits(r.returned()),
+        Written::Refused(r) => refusal(r),
     }
 }
 
@@ -56,4 +76,53 @@ pub extern "C" fn ruvangixo_range(name: &[u8], out: &mut [u8]) -> u64
 {
     let w = list_range(name, out);
     encode(w)
+}
+
+// For tests: the check of a catalog. Returned: 0.
+#[no_mangle]
+pub extern "C" fn ruvangixo_catalog(catalog: &[u8]) -> u64
+    ensures { λ r. ⌜ r ≡ checkedAs (told (catalogVerdict (now (catalog .entry))) (length (now (catalog .entry)))) ⌝ }
+{
+    let v = check_catalog(catalog);
+    match v {
+        Checked::Good(_) => 0,
+        Checked::Refused(r) => refusal(r),
+    }
+}
+
+// For tests: the size of a read's request, by its name. Returned: its bytes.
+#[no_mangle]
+pub extern "C" fn ruvangixo_request_size(catalog: &[u8], name: &[u8]) -> u64
+    ensures { λ r. ⌜ r ≡ requestAs (measuredOf (queryVerdict (now (catalog .entry)) (now (name .entry))) (readSize (catalogOf (now (catalog .entry))) (now (name .entry)))) ⌝ }
+{
+    let v = queries::read_size(catalog, name);
+    match v {
+        Measured::Bytes(z) => z.request % 72057594037927936,
+        Measured::Refused(r) => refusal(r),
+    }
+}
+
+// For tests: the size of its reply.
+#[no_mangle]
+pub extern "C" fn ruvangixo_reply_size(catalog: &[u8], name: &[u8]) -> u64
+    ensures { λ r. ⌜ r ≡ replyAs (measuredOf (queryVerdict (now (catalog .entry)) (now (name .entry))) (readSize (catalogOf (now (catalog .entry))) (now (name .entry)))) ⌝ }
+{
+    let v = queries::read_size(catalog, name);
+    match v {
+        Measured::Bytes(z) => z.reply % 72057594037927936,
+        Measured::Refused(r) => refusal(r),
+    }
+}
+
+// For tests: the size of the struct that a name leads to. Returned: its bytes, or all 56 bits set where none is read whole.
+#[no_mangle]
+pub extern "C" fn ruvangixo_struct_size(catalog: &[u8], name: &[u8]) -> u64
+    ensures { λ r. ⌜ r ≡ wholeAs (wholeOf (queryVerdict (now (catalog .entry)) (now (name .entry))) (andThen (infoOf (catalogOf (now (catalog .entry))) (now (name .entry))) (structSize (catalogOf (now (catalog .entry)))))) ⌝ }
+{
+    let v = queries::struct_size(catalog, name);
+    match v {
+        WholeSize::Is(n) => n % 72057594037927936,
+        WholeSize::Unknown => 72057594037927935,
+        WholeSize::Refused(r) => refusal(r),
+    }
 }

@@ -31,11 +31,18 @@ use Rattle.nodes.specs.Reading.{nodeIn, foundIn}
 use Rattle.nodes.specs.declared.Node.{Node as Read}
 use Rattle.nodes.specs.declared.Found.{Found as Place}
 use Rattle.nodes.specs.declared.Found.the-variants.{At, Nowhere}
-use Rattle.lookup.specs.Info.{infoOf, lookedUp}
+use Rattle.lookup.specs.Info.{infoOf, lookedUp, structSize}
 use Rattle.sizes.specs.Sizes.{Size, readSize}
 use Rattle.sizes.specs.Told.{largestCount, boundedSize}
 use Rattle.sizes.specs.declared.Size.{Size as Told}
-use Rattle.queries.specs.Queries.{measuredOf, lengthVerdict, nameVerdict, queryVerdict, found, answerOf, shownAs, lookedIn, blankNode}
+use Rattle.lookup.specs.Told.{bytesTold}
+use Rattle.lookup.specs.declared.Bytes.{Bytes as Told-bytes}
+use Rattle.lookup.specs.declared.Bytes.the-variants.{Known as KnownBytes, Unknown as UnknownBytes}
+use Rattle.structs.specs.Structs.{structTold}
+use Rattle.structs.proofs.Accepted.{struct-is}
+use Rattle.names.specs.Pieces.{andThen}
+use Rattle.queries.specs.declared.WholeSize.the-variants.{Is, Unknown, Refused as WholeRefused}
+use Rattle.queries.specs.Queries.{wholeOf, measuredOf, lengthVerdict, nameVerdict, queryVerdict, found, answerOf, shownAs, lookedIn, blankNode}
 use Rattle.queries.specs.declared.Looked.{Looked}
 use Rattle.queries.specs.declared.Measured.the-variants.{Bytes, Refused as SizeRefused}
 use Rattle.queries.proofs.Counts.{size-is}
@@ -161,3 +168,47 @@ unfolding measuredOf
 size-fine c n q p z e h =
     ap Bytes (h ∙ size-is (catalogOf c) n (name-short c n q p e) (name-fine c n q p e .1))
     ∙ sym (ap (λ v. measuredOf v (readSize (catalogOf c) n)) (told-fine (queryVerdict c n) q p e))
+
+-- ---- the bytes of a struct
+nested-fine : (c n : List ℕ) (q p : ℕ) → told (queryVerdict c n) q ≡ Good p → nestingVerdict c ≡ fine
+unfolding queryVerdict catalogVerdict
+nested-fine c n q p e =
+    let a = first-fine (catalogVerdict c) (nameVerdict n) (told-fine (queryVerdict c n) q p e) in
+    let b = first-fine (fieldsVerdict c) (first (alikeVerdict c) (nestingVerdict c)) (a .0) in
+    first-fine (alikeVerdict c) (nestingVerdict c) (b .1) .1
+
+pub struct-refused : (c n : List ℕ) (o : Option ℕ) (q : ℕ) (r : Refusal) → told (queryVerdict c n) q ≡ Refused r → WholeRefused r ≡ wholeOf (queryVerdict c n) o
+unfolding wholeOf
+struct-refused c n o q r e = sym (ap (λ v. wholeOf v o) (told-refused (queryVerdict c n) q r e))
+
+known-is : (o : Option ℕ) (z : ℕ) → bytesTold o ≡ KnownBytes z → o ≡ some z
+unfolding bytesTold
+known-is none z e = let z : _≡_ {A = ℕ} 0 1 = cc in absurd (omega arith)
+known-is (some m) z e = let y : m ≡ z = cc in ap some y
+
+unknown-is : (o : Option ℕ) → bytesTold o ≡ UnknownBytes → o ≡ none
+unfolding bytesTold
+unknown-is none e = refl
+unknown-is (some m) e = let z : _≡_ {A = ℕ} 0 1 = cc in absurd (omega arith)
+
+module _ (c n : List ℕ) (q p : ℕ) (e : told (queryVerdict c n) q ≡ Good p) (f : Place) (g : foundIn c f ≡ lookedUp (catalogOf c) n)
+    (b : Told-bytes) (h : b ≡ bytesTold (structTold (catalogOf c) (foundIn c f))) where
+  abbrev size : Option ℕ
+  size = andThen (infoOf (catalogOf c) n) (structSize (catalogOf c))
+
+  size-told : bytesTold size ≡ b
+  unfolding lookedUp
+  size-told =
+      let i : foundIn c f ≡ infoOf (catalogOf c) n = g ∙ rw (le-ltb longestName (length n) (name-short c n q p e)) in
+      sym (h ∙ ap bytesTold (struct-is c (foundIn c f) (nested-fine c n q p e)) ∙ ap (λ o. bytesTold (andThen o (structSize (catalogOf c)))) i)
+
+  fine-is : wholeOf (queryVerdict c n) size ≡ wholeOf fine size
+  fine-is = ap (λ v. wholeOf v size) (told-fine (queryVerdict c n) q p e)
+
+  pub struct-known : (z : ℕ) → b ≡ KnownBytes z → Is z ≡ wholeOf (queryVerdict c n) size
+  unfolding wholeOf
+  struct-known z k = sym (fine-is ∙ ap (wholeOf fine) (known-is size z (size-told ∙ k)))
+
+  pub struct-unknown : b ≡ UnknownBytes → Unknown ≡ wholeOf (queryVerdict c n) size
+  unfolding wholeOf
+  struct-unknown k = sym (fine-is ∙ ap (wholeOf fine) (unknown-is size (size-told ∙ k)))

@@ -24,6 +24,8 @@ use Rattle.nodes.specs.declared.Node.{Node as Read}
 use Rattle.queries.specs.declared.Looked.{Looked}
 use Rattle.queries.specs.declared.Outcome.{Outcome}
 use Rattle.queries.specs.declared.Outcome.the-variants.{Found, NotThere, Refused}
+use Rattle.queries.specs.declared.WholeSize.{WholeSize}
+use Rattle.queries.specs.declared.WholeSize.the-variants.{Is, Unknown, Refused as WholeRefused}
 use Rattle.queries.specs.declared.Measured.{Measured}
 use Rattle.queries.specs.declared.Measured.the-variants.{Bytes, Refused as SizeRefused}
 
@@ -69,3 +71,9 @@ blankNode = record { name = record { start = 0; end = 0 }; «type_name» = recor
 unfoldable pub measuredOf : Verdict → Size → Measured
 measuredOf fine z = Bytes (sizeTold z)
 measuredOf (bad r) z = SizeRefused r
+
+-- plc.rs `struct_size`: what a question for the bytes of a struct that is read whole answers
+unfoldable pub wholeOf : Verdict → Option ℕ → WholeSize
+wholeOf fine none = Unknown
+wholeOf fine (some n) = Is n
+wholeOf (bad r) o = WholeRefused r

@@ -8,12 +8,14 @@ use fields::Part;
 use fields::Refusal;
 use fields::check::check_bytes;
 use fields::check::check_indexes;
+use lookup::Bytes;
 use nodes::Found;
 use nodes::Maybe;
 use nodes::Node;
 use nodes::find::find_tag;
 use nodes::value::node_at;
 use sizes::Size;
+use structs::whole_size;
 use types::check_nesting;
 ghost use mathlib.Core.Path.{_≡_};
 ghost use lib.ListN.{length};
@@ -23,10 +25,11 @@ ghost use Rattle.catalog.specs.Catalog.{catalogOf};
 ghost use Rattle.catalog.specs.Check.{catalogVerdict};
 ghost use Rattle.nodes.specs.Lookup.{tagOf};
 ghost use Rattle.nodes.specs.Reading.{foundIn};
-ghost use Rattle.lookup.specs.Info.{infoOf};
+ghost use Rattle.names.specs.Pieces.{andThen};
+ghost use Rattle.lookup.specs.Info.{infoOf, structSize};
 ghost use Rattle.sizes.specs.Sizes.{readSize};
 ghost use Rattle.queries.specs.declared.Outcome.{Outcome};
-ghost use Rattle.queries.specs.Queries.{blankNode, nameVerdict, queryVerdict, answerOf, lookedIn, measuredOf};
+ghost use Rattle.queries.specs.Queries.{blankNode, nameVerdict, queryVerdict, answerOf, lookedIn, measuredOf, wholeOf};
 
 // Whether a node was found, or why the question was refused.
 pub enum Outcome {
@@ -44,6 +47,13 @@ pub struct Looked {
 // The bytes of a read, or why the question was refused.
 pub enum Measured {
     Bytes(Size),
+    Refused(Refusal),
+}
+
+// The bytes of a struct that is read whole, that the name leads to none, or why the question was refused.
+pub enum WholeSize {
+    Is(u64),
+    Unknown,
     Refused(Refusal),
 }
 
@@ -161,5 +171,22 @@ pub fn read_size(catalog: &[u8], name: &[u8]) -> Measured
     match v {
         Checked::Refused(r) => Measured::Refused(r),
         Checked::Good(_) => Measured::Bytes(sizes::reply::read_size(catalog, name)),
+    }
+}
+
+// The bytes of the struct that a full name leads to, if it is read whole.
+pub fn struct_size(catalog: &[u8], name: &[u8]) -> WholeSize
+    ensures { λ r. ⌜ r ≡ wholeOf (queryVerdict (now (catalog .entry)) (now (name .entry))) (andThen (infoOf (catalogOf (now (catalog .entry))) (now (name .entry))) (structSize (catalogOf (now (catalog .entry))))) ⌝ }
+{
+    let v = check_query(catalog, name);
+    match v {
+        Checked::Refused(r) => WholeSize::Refused(r),
+        Checked::Good(_) => {
+            let size = whole_size(catalog, lookup::info::info(catalog, name));
+            match size {
+                Bytes::Known(n) => WholeSize::Is(n),
+                Bytes::Unknown => WholeSize::Unknown,
+            }
+        }
     }
 }

@@ -1,4 +1,5 @@
 // Replays the stored answers of the Rust: each case of data/ is put to the proved code, and what it answers is compared byte for byte.
+// The refusals of damaged catalogs are document 01's, the Rust has none.
 // It prints a line for each file. How the cases were made stands in data/README.md.
 use fields::Checked;
 use fields::Part;
@@ -17,6 +18,7 @@ use nodes::place::node_past;
 use queries::check_catalog;
 use sizes::reply::element_size;
 use sizes::reply::read_size;
+use structs::whole_size;
 ghost use mathlib.Core.Path.{_≡_};
 ghost use Prim.Native.Nat.{_+_, _≤_};
 ghost use lib.ListN.{length};
@@ -28,6 +30,7 @@ enum Call {
     Range,
     Info,
     Sizes,
+    Damaged,
 }
 
 // How many cases were put, and how many were answered otherwise.
@@ -76,6 +79,19 @@ fn takes_catalog(call: Call) -> bool {
         Call::Range => false,
         Call::Info => true,
         Call::Sizes => true,
+        Call::Damaged => true,
+    }
+}
+
+// Whether that catalog is to be accepted: all but those of the check itself.
+fn wants_accepted(call: Call) -> bool {
+    match call {
+        Call::Tokens => false,
+        Call::Strip => false,
+        Call::Range => false,
+        Call::Info => true,
+        Call::Sizes => true,
+        Call::Damaged => false,
     }
 }
 
@@ -163,43 +179,29 @@ fn put_size(out: &mut [u8], at: usize, size: Bytes) -> usize
     }
 }
 
-// Writes the sizes of a read: its request and its reply, then an element of a run.
+// Writes the sizes of a read: its request and its reply, then an element of a run, then a struct that is read whole.
 fn put_sizes(catalog: &[u8], name: &[u8], out: &mut [u8]) -> usize {
     let size = read_size(catalog, name);
     put_number(out, 0, Width::Eight, size.request);
     put_number(out, 8, Width::Eight, size.reply);
-    put_size(out, 16, element_size(catalog, info(catalog, name)))
+    let at = put_size(out, 16, element_size(catalog, info(catalog, name)));
+    put_size(out, at, whole_size(catalog, info(catalog, name)))
 }
 
-// The place past the size that stands at a place of an answer: the answer's end where it is cut off.
-fn size_past(answer: &[u8], at: usize) -> usize
-    ensures { λ r. ⌜ r ≤ length (now (answer .entry)) ⌝ }
-{
-    let end = answer.len();
-    if end <= at {
-        return end;
+// Writes what the check of a catalog answers: the number of the refusal and what it returns, both 0 where there is none.
+fn put_verdict(catalog: &[u8], out: &mut [u8]) -> usize {
+    let v = check_catalog(catalog);
+    match v {
+        Checked::Good(_) => {
+            put_number(out, 0, Width::One, 0);
+            put_number(out, 1, Width::Eight, 0);
+        }
+        Checked::Refused(r) => {
+            put_number(out, 0, Width::One, r.number() as u64);
+            put_number(out, 1, Width::Eight, r.returned() as u64);
+        }
     }
-    if answer[at] == 0 {
-        return at + 1;
-    }
-    if end - at < 9 {
-        return end;
-    }
-    at + 9
-}
-
-// How many bytes of an answer are compared. Of the sizes these are the request, the reply and the element.
-fn compared(call: Call, answer: &[u8]) -> usize
-    ensures { λ r. ⌜ r ≤ length (now (answer .entry)) ⌝ }
-{
-    let end = answer.len();
-    match call {
-        Call::Tokens => end,
-        Call::Strip => end,
-        Call::Range => end,
-        Call::Info => end,
-        Call::Sizes => size_past(answer, 16),
-    }
+    9
 }
 
 // The call itself.
@@ -210,6 +212,7 @@ fn made(call: Call, catalog: &[u8], name: &[u8], out: &mut [u8]) -> Written {
         Call::Range => names::listing::list_range(name, out),
         Call::Info => Written::Done(put_info(catalog, name, out)),
         Call::Sizes => Written::Done(put_sizes(catalog, name, out)),
+        Call::Damaged => Written::Done(put_verdict(catalog, out)),
     }
 }
 
@@ -224,15 +227,14 @@ fn is_catalog(catalog: &[u8]) -> bool {
 
 // Whether a call gives the stored answer.
 fn agrees(call: Call, catalog: &[u8], name: &[u8], answer: &[u8]) -> bool {
-    if takes_catalog(call) {
+    if wants_accepted(call) {
         if !is_catalog(catalog) {
             return false;
         }
     }
     let mut out = [UNTOUCHED; 2048];
     let w = made(call, catalog, name, &mut out);
-    let end = compared(call, answer);
-    wrote(w, &out, &answer[0..end])
+    wrote(w, &out, answer)
 }
 
 // One case more.
@@ -250,7 +252,7 @@ fn counted(tally: Tally, agreed: bool) -> Tally {
     }
 }
 
-// The cases of a file: a catalog if the call takes one, a name and an answer each.
+// The cases of a file: a catalog if the call takes one, a name and an answer each. The name is empty where only a catalog is checked.
 fn replay(call: Call, s: &[u8]) -> Tally {
     let mut tally = Tally {
         cases: 0,
@@ -314,4 +316,5 @@ fn main() {
     run(Call::Range, b"range.cases");
     run(Call::Info, b"info.cases");
     run(Call::Sizes, b"sizes.cases");
+    run(Call::Damaged, b"damaged.cases");
 }
