@@ -4,7 +4,7 @@
 use std::collections::BTreeMap;
 
 use crate::guard::Lent;
-use crate::kinds::{self, Fields, Kind};
+use crate::kinds::{self, Answer, Fields, Kind};
 use crate::library::{CALLS, Call, Library};
 use crate::random::Random;
 use crate::table;
@@ -24,9 +24,9 @@ struct Trial {
 
 /// A table of the cases and, at its end, the differences; false if there are any.
 pub fn compare(library: &Library, name: &str, count: usize, seed: u64) -> Result<(Vec<String>, bool), String> {
-    let kind = kinds::named(name)?;
-    let call = CALLS.iter().find(|c| c.kind == name);
+    let call = CALLS.iter().find(|c| c.name == name);
     let call = call.ok_or_else(|| format!("the library has no {name} yet"))?;
+    let kind = kinds::named(call.kind)?;
     let mut random = Random::named(seed, name);
     let mut counts = BTreeMap::new();
     let mut differing = Vec::new();
@@ -45,6 +45,11 @@ pub fn compare(library: &Library, name: &str, count: usize, seed: u64) -> Result
     Ok((lines, differing.is_empty()))
 }
 
+/// What of the Rust's answer the call gives.
+fn answer(kind: &Kind, call: &Call, fields: &Fields) -> Answer {
+    (kind.answer)(fields).map(call.part)
+}
+
 /// A generated case, at times refused, with just enough room, more, or less.
 fn trial(random: &mut Random, kind: &Kind, call: &Call) -> Result<Trial, String> {
     let mut fields = (kind.generate)(random);
@@ -53,7 +58,7 @@ fn trial(random: &mut Random, kind: &Kind, call: &Call) -> Result<Trial, String>
     }
     let needed = match (call.refusal)(&fields) {
         Some(_) => 64,
-        None => (kind.answer)(&fields)?.len(),
+        None => answer(kind, call, &fields)?.len(),
     };
     let room = match random.below(8) {
         0..4 => needed,
@@ -69,7 +74,7 @@ fn shown(kind: &Kind, call: &Call, trial: &Trial) -> Vec<&'static str> {
     if (call.refusal)(&trial.fields).is_some() {
         return vec!["refused input"];
     }
-    let Ok(answer) = (kind.answer)(&trial.fields) else {
+    let Ok(answer) = answer(kind, call, &trial.fields) else {
         return vec!["no answer by the Rust"];
     };
     let mut features = (kind.features)(&trial.fields, &answer);
@@ -88,7 +93,7 @@ fn expected(kind: &Kind, call: &Call, trial: &Trial) -> Option<(u64, Vec<u8>)> {
     if let Some((number, returned)) = (call.refusal)(&trial.fields) {
         return Some((u64::from(number) << 56 | returned, out));
     }
-    let answer = (kind.answer)(&trial.fields).ok()?;
+    let answer = answer(kind, call, &trial.fields).ok()?;
     if !call.writes {
         let returned = answer.iter().fold(0, |n, b| n << 8 | u64::from(*b));
         return Some((returned, out));
@@ -139,7 +144,7 @@ fn shrink(library: &Library, kind: &Kind, call: &Call, mut trial: Trial) -> Tria
     loop {
         let mut found = None;
         for fields in (kind.smaller)(&trial.fields) {
-            let candidates = rooms(kind, &fields, trial.room);
+            let candidates = rooms(kind, call, &fields, trial.room);
             let smaller = candidates.into_iter().map(|room| Trial { fields: fields.clone(), room });
             found = smaller.into_iter().find(|t| difference(library, kind, call, t).is_some());
             if found.is_some() {
@@ -154,8 +159,8 @@ fn shrink(library: &Library, kind: &Kind, call: &Call, mut trial: Trial) -> Tria
 }
 
 /// The room as it was, and just enough for the smaller case.
-fn rooms(kind: &Kind, fields: &Fields, room: usize) -> Vec<usize> {
-    let enough = (kind.answer)(fields).map(|a| a.len());
+fn rooms(kind: &Kind, call: &Call, fields: &Fields, room: usize) -> Vec<usize> {
+    let enough = answer(kind, call, fields).map(|a| a.len());
     enough.into_iter().chain([room]).collect()
 }
 

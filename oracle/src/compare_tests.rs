@@ -1,8 +1,9 @@
 //! The comparison held against a library made of the oracle itself, and against ones that do something wrong.
 
 use super::compare;
-use crate::library::Library;
-use crate::names;
+use crate::catalog::Catalog;
+use crate::library::{Library, struct_part};
+use crate::{lookup, names, worst};
 
 type Answer = fn(&[u8]) -> Result<Vec<u8>, String>;
 
@@ -57,7 +58,36 @@ unsafe extern "C" fn hasty(name: *const u8, length: usize, out: *mut u8, room: u
     returned
 }
 
-const RIGHT: Library = Library { tokens, strip, range };
+/// What an exported lookup has to return: a part of the sizes, or that the name is too long.
+unsafe fn size(part: fn(Vec<u8>) -> Vec<u8>, catalog: (*const u8, usize), name: (*const u8, usize)) -> u64 {
+    let catalog = unsafe { std::slice::from_raw_parts(catalog.0, catalog.1) };
+    let name = unsafe { std::slice::from_raw_parts(name.0, name.1) };
+    if name.len() > names::LONGEST {
+        return 5 << 56;
+    }
+    let sizes = lookup::sizes(catalog, name).expect("only catalogs and texts are asked");
+    part(sizes).iter().fold(0, |n, b| n << 8 | u64::from(*b))
+}
+
+unsafe extern "C" fn request_size(catalog: *const u8, size_of: usize, name: *const u8, length: usize) -> u64 {
+    unsafe { size(|sizes| sizes[..8].to_vec(), (catalog, size_of), (name, length)) }
+}
+
+unsafe extern "C" fn reply_size(catalog: *const u8, size_of: usize, name: *const u8, length: usize) -> u64 {
+    unsafe { size(|sizes| sizes[8..16].to_vec(), (catalog, size_of), (name, length)) }
+}
+
+unsafe extern "C" fn struct_size(catalog: *const u8, size_of: usize, name: *const u8, length: usize) -> u64 {
+    unsafe { size(struct_part, (catalog, size_of), (name, length)) }
+}
+
+/// Accepts what the oracle takes.
+unsafe extern "C" fn catalog(file: *const u8, size: usize) -> u64 {
+    let file = unsafe { std::slice::from_raw_parts(file, size) };
+    u64::from(Catalog::read(file).is_err()) << 56
+}
+
+const RIGHT: Library = Library { tokens, strip, range, catalog, request_size, reply_size, struct_size };
 
 fn run(library: Library, kind: &str) -> (String, bool) {
     let (lines, same) = compare(&library, kind, 4000, 1).expect("the comparison runs");
@@ -66,7 +96,7 @@ fn run(library: Library, kind: &str) -> (String, bool) {
 
 #[test]
 fn the_oracle_does_not_differ_from_itself() {
-    for kind in ["tokens", "strip", "range"] {
+    for kind in ["tokens", "strip", "range", "request_size", "reply_size", "struct_size"] {
         let (text, same) = run(RIGHT, kind);
         assert!(same, "{text}");
         assert!(text.contains("0 differences in 4000 cases"));
@@ -96,4 +126,26 @@ fn a_write_before_a_refusal_is_found() {
 #[test]
 fn a_call_that_the_library_lacks_is_said() {
     assert!(compare(&RIGHT, "sort", 1, 1).is_err());
+}
+
+#[test]
+fn one_size_for_another_is_found() {
+    for (library, name) in [
+        (Library { request_size: reply_size, ..RIGHT }, "request_size"),
+        (Library { reply_size: struct_size, ..RIGHT }, "reply_size"),
+        (Library { struct_size: request_size, ..RIGHT }, "struct_size"),
+    ] {
+        let (text, same) = run(library, name);
+        assert!(!same, "{text}");
+    }
+}
+
+#[test]
+fn the_catalogs_that_take_long_are_accepted() {
+    let lines = worst::lines(&RIGHT);
+    assert_eq!(lines.len(), 4);
+    for line in &lines[..3] {
+        assert!(line.contains("refusal 0"), "{line}");
+    }
+    assert!(lines[3].contains(": 8,"), "{}", lines[3]);
 }

@@ -40,3 +40,4 @@ pub mod store;
 pub mod table;
 pub mod tally;
 pub mod value;
+pub mod worst;

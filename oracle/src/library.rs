@@ -8,12 +8,22 @@ use crate::random::Random;
 /// A call with one input and an output, each a pointer and a length.
 pub type NameCall = unsafe extern "C" fn(*const u8, usize, *mut u8, usize) -> u64;
 
-/// The functions that are compared.
+/// A call with a catalog and a name, which answers in the number that it returns.
+pub type LookupCall = unsafe extern "C" fn(*const u8, usize, *const u8, usize) -> u64;
+
+/// A call with a catalog alone.
+pub type CatalogCall = unsafe extern "C" fn(*const u8, usize) -> u64;
+
+/// The functions that are compared or timed.
 #[derive(Clone, Copy)]
 pub struct Library {
     pub tokens: NameCall,
     pub strip: NameCall,
     pub range: NameCall,
+    pub catalog: CatalogCall,
+    pub request_size: LookupCall,
+    pub reply_size: LookupCall,
+    pub struct_size: LookupCall,
 }
 
 /// What a call returned, or what it changed that it may not change.
@@ -23,7 +33,11 @@ pub type Refusal = Option<(u8, u64)>;
 
 /// How the library is called for one kind of case.
 pub struct Call {
+    pub name: &'static str,
+    /// The kind whose cases it takes.
     pub kind: &'static str,
+    /// What of the Rust's answer it gives.
+    pub part: fn(Vec<u8>) -> Vec<u8>,
     /// Calls it; an error says which input was changed.
     pub call: fn(&Library, &[Vec<u8>], &mut Lent<u8>) -> Returned,
     /// Whether the answer is written to the lent output, rather than returned.
@@ -37,27 +51,69 @@ pub struct Call {
 /// A further call of the library is added here, with its function in `Library`.
 pub const CALLS: &[Call] = &[
     Call {
+        name: "tokens",
         kind: "tokens",
+        part: |answer| answer,
         call: |library, fields, out| named(library.tokens, fields, out),
         writes: true,
         refusal: too_long,
         spoil: lengthen,
     },
     Call {
+        name: "strip",
         kind: "strip",
+        part: |answer| answer,
         call: |library, fields, out| named(library.strip, fields, out),
         writes: true,
         refusal: |_| None,
         spoil: lengthen,
     },
     Call {
+        name: "range",
         kind: "range",
+        part: |answer| answer,
         call: |library, fields, out| named(library.range, fields, out),
         writes: true,
         refusal: too_long,
         spoil: lengthen,
     },
+    Call {
+        name: "request_size",
+        kind: "sizes",
+        part: |answer| answer[..8].to_vec(),
+        call: |library, fields, _| looked_up(library.request_size, fields),
+        writes: false,
+        refusal: too_long,
+        spoil: lengthen,
+    },
+    Call {
+        name: "reply_size",
+        kind: "sizes",
+        part: |answer| answer[8..16].to_vec(),
+        call: |library, fields, _| looked_up(library.reply_size, fields),
+        writes: false,
+        refusal: too_long,
+        spoil: lengthen,
+    },
+    Call {
+        name: "struct_size",
+        kind: "sizes",
+        part: struct_part,
+        call: |library, fields, _| looked_up(library.struct_size, fields),
+        writes: false,
+        refusal: too_long,
+        spoil: lengthen,
+    },
 ];
+
+/// The last of the sizes, behind that of an element; all 56 bits set where there is none.
+pub fn struct_part(answer: Vec<u8>) -> Vec<u8> {
+    let at = if answer[16] == 0 { 17 } else { 25 };
+    match answer[at] {
+        0 => vec![0xff; 7],
+        _ => answer[at + 1..].to_vec(),
+    }
+}
 
 pub fn named(function: NameCall, fields: &[Vec<u8>], out: &mut Lent<u8>) -> Returned {
     let name = Lent::new(&fields[0], 0xd7);
@@ -69,15 +125,28 @@ pub fn named(function: NameCall, fields: &[Vec<u8>], out: &mut Lent<u8>) -> Retu
     }
 }
 
+pub fn looked_up(function: LookupCall, fields: &[Vec<u8>]) -> Returned {
+    let catalog = Lent::new(&fields[0], 0xd7);
+    let name = Lent::new(&fields[1], 0xd7);
+    // The pointers and lengths are those of two live vectors that nothing else holds.
+    let returned = unsafe { function(catalog.pointer(), catalog.len(), name.pointer(), name.len()) };
+    match catalog.untouched() && name.untouched() {
+        true => Ok(returned),
+        false => Err("an input or what stands beside it was changed".to_owned()),
+    }
+}
+
+/// The name is the last input.
 fn too_long(fields: &[Vec<u8>]) -> Refusal {
-    (fields[0].len() > LONGEST).then_some((5, 0))
+    (fields[fields.len() - 1].len() > LONGEST).then_some((5, 0))
 }
 
 fn lengthen(random: &mut Random, fields: &mut [Vec<u8>]) {
     let length = random.within(LONGEST + 1, LONGEST + 200);
-    while fields[0].len() < length {
+    let Some(name) = fields.last_mut() else { return };
+    while name.len() < length {
         let byte = *random.pick(b"aZ_9.[],{} ");
-        fields[0].push(byte);
+        name.push(byte);
     }
 }
 
@@ -88,8 +157,20 @@ pub fn linked() -> Result<Library, String> {
         fn ruvangixo_tokens(name: *const u8, length: usize, out: *mut u8, room: usize) -> u64;
         fn ruvangixo_strip(name: *const u8, length: usize, out: *mut u8, room: usize) -> u64;
         fn ruvangixo_range(name: *const u8, length: usize, out: *mut u8, room: usize) -> u64;
+        fn ruvangixo_catalog(catalog: *const u8, size: usize) -> u64;
+        fn ruvangixo_request_size(catalog: *const u8, size: usize, name: *const u8, length: usize) -> u64;
+        fn ruvangixo_reply_size(catalog: *const u8, size: usize, name: *const u8, length: usize) -> u64;
+        fn ruvangixo_struct_size(catalog: *const u8, size: usize, name: *const u8, length: usize) -> u64;
     }
-    Ok(Library { tokens: ruvangixo_tokens, strip: ruvangixo_strip, range: ruvangixo_range })
+    Ok(Library {
+        tokens: ruvangixo_tokens,
+        strip: ruvangixo_strip,
+        range: ruvangixo_range,
+        catalog: ruvangixo_catalog,
+        request_size: ruvangixo_request_size,
+        reply_size: ruvangixo_reply_size,
+        struct_size: ruvangixo_struct_size,
+    })
 }
 
 #[cfg(not(feature = "compare"))]

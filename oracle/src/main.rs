@@ -1,5 +1,5 @@
-//! The command line: `oracle CALL INPUTS..` answers one call, `table`, `store`, `stored` and `compare` work on cases
-//! made from a seed.
+//! The command line: `oracle CALL INPUTS..` answers one call; `table`, `store`, `stored`, `cases` and `compare` work on
+//! cases made from a seed.
 
 use std::io::Write;
 use std::path::Path;
@@ -7,7 +7,7 @@ use std::process::ExitCode;
 
 use oracle::compare;
 use oracle::kinds::{self, BUDGET, Fields, KINDS, Kind, NAME};
-use oracle::{store, table};
+use oracle::{store, table, worst};
 
 fn main() -> ExitCode {
     let mut words: Vec<String> = std::env::args().skip(1).collect();
@@ -38,11 +38,17 @@ fn run(words: &[&str], hex: bool) -> Result<bool, String> {
             let (lines, same) = store::stored(Path::new(folder), number(seed)? as u64)?;
             Ok(print(&lines, same))
         }
+        ["cases", kind, count, seed, folder] => {
+            let kind = kinds::named(kind)?;
+            let lines = store::many(kind, number(count)?, number(seed)? as u64, Path::new(folder))?;
+            Ok(print(&lines, true))
+        }
         ["compare", kind, count, seed] => {
             let library = compare::linked()?;
             let (lines, same) = compare::compare(&library, kind, number(count)?, number(seed)? as u64)?;
             Ok(print(&lines, same))
         }
+        ["worst"] => Ok(print(&worst::lines(&compare::linked()?), true)),
         [call, inputs @ ..] => match kinds::named(call) {
             Ok(kind) if kind.inputs.len() == inputs.len() => answer(kind, inputs, hex),
             _ => Err(usage()),
@@ -94,6 +100,8 @@ fn usage() -> String {
     lines.push("  oracle table KIND COUNT SEED".to_owned());
     lines.push("  oracle store FOLDER SEED".to_owned());
     lines.push("  oracle stored FOLDER SEED".to_owned());
+    lines.push("  oracle cases KIND COUNT SEED FOLDER".to_owned());
     lines.push("  oracle compare KIND COUNT SEED".to_owned());
+    lines.push("  oracle worst".to_owned());
     lines.join("\n")
 }

@@ -48,6 +48,38 @@ pub fn stored(folder: &Path, seed: u64) -> Result<(Vec<String>, bool), String> {
     Ok((lines, all))
 }
 
+/// What the program that replays a file of cases reads of it.
+const REPLAYED: usize = 262_144;
+
+/// Writes generated cases of a kind, as they come, to FOLDER/0, FOLDER/1 and so on, each no longer than can be
+/// replayed; tells how many files there are.
+pub fn many(kind: &Kind, count: usize, seed: u64, folder: &Path) -> Result<Vec<String>, String> {
+    let mut random = Random::named(seed, kind.name);
+    let mut row = Vec::new();
+    let mut bytes = 0;
+    let mut files = 0;
+    for _ in 0..count {
+        let case = (kind.generate)(&mut random);
+        let size = answered(kind, std::slice::from_ref(&case))?.bytes.len();
+        if bytes + size >= REPLAYED {
+            place(folder, files, &answered(kind, &row)?)?;
+            (row, bytes, files) = (Vec::new(), 0, files + 1);
+        }
+        bytes += size;
+        row.push(case);
+    }
+    place(folder, files, &answered(kind, &row)?)?;
+    Ok(vec![format!("{count} cases in {} files", files + 1)])
+}
+
+fn place(folder: &Path, number: usize, file: &Stored) -> Result<(), String> {
+    let folder = folder.join(number.to_string());
+    let path = folder.join(&file.name);
+    let fault = |e| format!("{}: {e}", path.display());
+    std::fs::create_dir_all(&folder).map_err(fault)?;
+    std::fs::write(&path, &file.bytes).map_err(fault)
+}
+
 fn files(seed: u64) -> Result<Vec<Stored>, String> {
     let mut files = Vec::new();
     for kind in KINDS {
