@@ -8,17 +8,18 @@ use Prim.Native.Nat.{ℕ, zero, suc, _+_, _-_, _≤_, _<_}
 use native.Mathlib.Omega.{arith}
 use lib.ListN.{length, take, drop, getD, length-drop}
 use lib.Dec.{ltb}
-use borrow.Author.Tests.{lt-ltb, le-ltb, eq-eqb, ne-eqb}
+use borrow.Author.Tests.{ltb-true, ltb-false, lt-ltb, le-ltb, eq-eqb, ne-eqb}
 use Rattle.fields.specs.Text.{printable}
 use Rattle.fields.specs.Format.{fine, bad, first}
 use Rattle.fields.specs.Fields.{whole, numberCheck, numeric, textBytes, textCheck, textOf, textPast, textVerdict, text}
 use Rattle.fields.specs.Files.{openingCheck, endingCheck}
-use Rattle.fields.specs.Places.{told, outcome, checkAt, part}
+use Rattle.fields.specs.Places.{told, outcome, checkAt, part, textPart}
+use Rattle.fields.specs.declared.Part.{Part}
 use Rattle.fields.specs.declared.Refusal.{Refusal}
 use Rattle.fields.specs.declared.Refusal.the-variants.{FileTooLong, BadVersion, OutOfFile, NotAllowed, OverLimit}
 use Rattle.fields.specs.declared.Checked.{Checked}
 use Rattle.fields.specs.declared.Checked.the-variants.{Good, Refused}
-use Rattle.fields.proofs.Lists.{drop-next, drop-past, part-take}
+use Rattle.fields.proofs.Lists.{drop-next, drop-past, part-take, cond-elim}
 use Rattle.fields.proofs.Numbers.{there}
 use Rattle.fields.proofs.Chains.{told-bad, told-good}
 
@@ -113,24 +114,33 @@ module _ (s : List ℕ) (at max : ℕ) where
       text-good p e o = sym (text-all p e ∙ rw (le-ltb _ _ o))
 
 -- ---- where a text stands
-pub at-missing : (s : List ℕ) (at : ℕ) → length s ≤ at → (part 0 0 s ≡ textOf (drop at s)) × (0 ≤ 0) × (0 ≤ length s)
-unfolding textOf
-at-missing s at h = (rw (drop-past s at h) refl, omega arith, omega arith)
+pub at-missing : (s : List ℕ) (at : ℕ) → length s ≤ at → (_≡_ {A = Part} (record { start = 0; end = 0 }) (textPart s at)) × (0 ≤ 0) × (0 ≤ length s)
+unfolding textPart
+at-missing s at h = (rw (le-ltb _ _ h), omega arith, omega arith)
 
 pub past-missing : (s : List ℕ) (at : ℕ) → length s ≤ at → at ≡ textPast (drop at s) at
 unfolding textPast
 past-missing s at h = rw (drop-past s at h)
 
 module _ (s : List ℕ) (at n p : ℕ) (h : at < length s) (b : n ≡ getD s at 0) (e : p ≡ at + 1 + length (take n (drop (at + 1) s))) where
-  pub at-there : (part (at + 1) p s ≡ textOf (drop at s)) × (at + 1 ≤ p) × (p ≤ length s)
-  unfolding textOf
-  at-there =
-      let t = there n (at + 1) s in
-      (rw (drop-next s at h, ← b, e) (part-take s (at + 1) n), omega arith, omega arith)
-
   pub past-there : p ≡ textPast (drop at s) at
   unfolding textPast
   past-there = rw (drop-next s at h, ← b, e)
+
+  pub at-there : (_≡_ {A = Part} (record { start = at + 1; end = p }) (textPart s at)) × (at + 1 ≤ p) × (p ≤ length s)
+  unfolding textPart
+  at-there =
+      let t = there n (at + 1) s in
+      (rw (lt-ltb _ _ h, past-there), omega arith, omega arith)
+
+-- the bytes that stand there are the text
+pub part-text : (s : List ℕ) (at : ℕ) (r : Part) → r ≡ textPart s at → part (r .start) (r .end) s ≡ textOf (drop at s)
+unfolding textPart textPast textOf
+part-text s at r e =
+    ap (λ (x : Part). part (x .start) (x .end) s) e
+    ∙ cond-elim (λ (x : Part). part (x .start) (x .end) s ≡ textOf (drop at s)) (ltb at (length s))
+    (λ h. rw (drop-next s at (ltb-true _ _ h)) (part-take s (at + 1) (getD s at 0)))
+    (λ h. rw (drop-past s at (ltb-false _ _ h)) refl)
 
 -- ---- a file's first bytes
 module _ (most : ℕ) (s : List ℕ) where

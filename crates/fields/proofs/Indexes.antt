@@ -24,7 +24,7 @@ use Rattle.fields.proofs.Lists.{drop-take, drop-next, drop-past}
 use Rattle.fields.proofs.Decimals.{digits-end-is, leading-is, leading-digits, value-is, numeral-value}
 use Rattle.fields.proofs.Numbers.{there}
 use Rattle.fields.proofs.Chains.{told-bad, told-good}
-use Rattle.fields.proofs.Checks.{text-missing, at-there}
+use Rattle.fields.proofs.Checks.{text-missing, at-there, part-text}
 
 -- ---- which bytes open an index
 module _ (b : ℕ) where
@@ -133,7 +133,8 @@ module _ (s : List ℕ) (at max : ℕ) where
     unfolding textPast
     text-stands =
         let d : textPast (drop at s) at ≡ at + 1 + length (take (getD s at 0) (drop (at + 1) s)) = rw (drop-next s at text-starts) in
-        at-there s at (getD s at 0) e text-starts refl (sym text-ends ∙ d)
+        let h = at-there s at (getD s at 0) e text-starts refl (sym text-ends ∙ d) in
+        (part-text s at _ (h .0), h .1, h .2)
 
     pub text-within : e ≡ length (take e s)
     text-within = let k = text-stands in let n = length-take e s in omega arith

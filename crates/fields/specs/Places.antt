@@ -4,8 +4,11 @@ use Prim.Native.Nat.{ℕ, _+_, _-_}
 use mathlib.Core.Bool.{Bool, true, false, cond}
 use mathlib.Core.List.{List, [], _∷_}
 use mathlib.Core.Option.{Option, none, some}
+use lib.Dec.{ltb}
 use lib.ListN.{length, take, drop}
+use Rattle.fields.specs.Fields.{textPast}
 use Rattle.fields.specs.Format.{Verdict, fine, bad, Answer, Format}
+use Rattle.fields.specs.declared.Part.{Part}
 use Rattle.fields.specs.declared.Width.{Width}
 use Rattle.fields.specs.declared.Width.the-variants.{One, Two, Four, Eight}
 use Rattle.fields.specs.declared.Checked.{Checked}
@@ -44,6 +47,10 @@ bytesOf Eight = 8
 -- the bytes from a place up to another, as Rattle's `&s[a..b]`
 abbrev pub part : ℕ → ℕ → List ℕ → List ℕ
 part a b s = take (b - a) (drop a s)
+
+-- where the text at a place stands, behind its length byte; past the file it is the empty one at the front
+unfoldable pub textPart : List ℕ → ℕ → Part
+textPart s at = cond (ltb at (length s)) (record { start = at + 1; end = textPast (drop at s) at }) (record { start = 0; end = 0 })
 
 -- where the bytes that pass the test `p` end; `i` is the place of the first byte left
 unfoldable pub scan : (ℕ → Bool) → List ℕ → ℕ → ℕ

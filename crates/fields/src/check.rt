@@ -14,9 +14,9 @@ use crate::text::is_printable;
 ghost use mathlib.Core.Path.{_≡_};
 ghost use Prim.Native.Nat.{_+_, _-_, _*_, _≤_, _<_};
 ghost use lib.ListN.{length, take, drop};
-ghost use Rattle.fields.specs.Fields.{number, choice, text, textOf, textPast, textBytes, opensIndex, digitsAbove, indexCheck, indexedText};
+ghost use Rattle.fields.specs.Fields.{number, choice, text, textPast, textBytes, opensIndex, digitsAbove, indexCheck, indexedText};
 ghost use Rattle.fields.specs.Files.{openingCheck, endingCheck};
-ghost use Rattle.fields.specs.Places.{checkAt, told, bytesOf, part};
+ghost use Rattle.fields.specs.Places.{checkAt, told, bytesOf, textPart};
 
 // A number of at most max.
 pub fn check_number(s: &[u8], at: usize, w: Width, max: usize) -> Checked
@@ -145,7 +145,7 @@ pub fn check_indexed_text(s: &[u8], at: usize, max: usize, most: u64) -> Checked
 
 // Where the text at a place stands, inside the file.
 pub fn text_at(s: &[u8], at: usize) -> Part
-    ensures { λ r. ⌜ (part (r .start) (r .end) (now (s .entry)) ≡ textOf (drop at (now (s .entry)))) × (r .start ≤ r .end) × (r .end ≤ length (now (s .entry))) ⌝ }
+    ensures { λ r. ⌜ (r ≡ textPart (now (s .entry)) at) × (r .start ≤ r .end) × (r .end ≤ length (now (s .entry))) ⌝ }
 {
     if s.len() <= at {
         return Part { start: 0, end: 0 };

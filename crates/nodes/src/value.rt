@@ -11,11 +11,11 @@ use fields::number::number_at;
 use fields::number::past;
 ghost use mathlib.Core.Path.{_≡_};
 ghost use Prim.Native.Nat.{_≤_};
-ghost use lib.ListN.{length, take};
+ghost use lib.ListN.{length};
 ghost use Rattle.fields.specs.Fields.{number, optional};
 ghost use Rattle.fields.specs.Places.{valueAt, placeAt, bytesOf};
-ghost use Rattle.catalog.specs.Catalog.{kind, dims, node};
-ghost use Rattle.nodes.specs.Reading.{maybeOf, nodeIn};
+ghost use Rattle.catalog.specs.Catalog.{kind, dims};
+ghost use Rattle.nodes.specs.Reading.{maybeOf, threeOf, nodeRead};
 
 // The kind at a place.
 fn kind_at(s: &[u8], at: usize) -> Kind
@@ -33,7 +33,7 @@ fn kind_at(s: &[u8], at: usize) -> Kind
 
 // The dimensions at a place.
 fn dims_at(s: &[u8], at: usize) -> Dims
-    ensures { λ r. ⌜ (take (r .count) (r .dims) ≡ valueAt dims (now (s .entry)) at) × (r .next ≡ placeAt dims (now (s .entry)) at) × (r .count ≤ 3) ⌝ }
+    ensures { λ r. ⌜ (r .dims ≡ threeOf (valueAt dims (now (s .entry)) at)) × (r .count ≡ length (valueAt dims (now (s .entry)) at)) × (r .next ≡ placeAt dims (now (s .entry)) at) × (r .count ≤ 3) ⌝ }
 {
     let count = number_at(s, at, Width::One, 3);
     let mut dims = [0; 3];
@@ -72,7 +72,7 @@ fn held_at(s: &[u8], at: usize, w: Width, max: u32) -> Held
 
 // The node at a place.
 pub fn node_at(s: &[u8], at: usize) -> Node
-    ensures { λ r. ⌜ (nodeIn (now (s .entry)) r ≡ valueAt node (now (s .entry)) at) × (r .count ≤ 3) ⌝ }
+    ensures { λ r. ⌜ (r ≡ nodeRead (now (s .entry)) at) × (r .count ≤ 3) ⌝ }
 {
     let name = text_at(s, at);
     let of_place = text_past(s, at);

@@ -1,4 +1,5 @@
 -- The parts that were read are the names at the two places, and they are compared byte for byte.
+use Rattle.fields.proofs.Checks.{part-text}
 use Rattle.alike.proofs.Buckets.{same-at}
 use denote.Ref.{now}
 use borrow.Author.Needs.{needs}
@@ -33,7 +34,7 @@ equal-requires : tie.Need-equal-requires
 equal-requires c κs = search needs
 
 returns : tie.Need-returns
-returns c = let a = c .before .before .before .before .before .before .args in let t = c .before .before .before .before .text-at .result in let u = c .before .before .before .text-at2 .result in same-at (now (a .s)) (a .p) (a .q) (t .start) (t .end) (u .start) (u .end) _ (c .before .before .before .before .text-at .ensures .0) (c .before .before .before .text-at2 .ensures .0) (c .equal .ensures)
+returns c = let a = c .before .before .before .before .before .before .args in let t = c .before .before .before .before .text-at .result in let u = c .before .before .before .text-at2 .result in same-at (now (a .s)) (a .p) (a .q) (t .start) (t .end) (u .start) (u .end) _ (part-text _ _ _ (c .before .before .before .before .text-at .ensures .0)) (part-text _ _ _ (c .before .before .before .text-at2 .ensures .0)) (c .equal .ensures)
 
 pub same-at-spec : {M : Type 1} → statement M
 same-at-spec =

@@ -1,6 +1,7 @@
 -- The kind byte tells whether the node is a struct, and the search by name tells the size of its type.
 use borrow.Author.Needs.{needs}
 use denote.Ref.{now}
+use Rattle.fields.proofs.Checks.{part-text}
 use Rattle.structs.proofs.Marked.{size-other, size-struct}
 use Rattle.structs.proofs.node_size.Statement.{statement}
 use Rattle.structs.proofs.node_size.Tie as tie
@@ -33,7 +34,7 @@ marked-type-requires : tie.Need-marked-type-requires
 marked-type-requires c κs = search needs
 
 returns-2 : tie.Need-returns-2
-returns-2 c = let a = c .before .before .before .before .before .before .before .before .before .args in let t = c .before .before .text-at .result in size-struct (now (a .marks)) (now (a .s)) (a .at) _ _ _ (c .before .before .before .before .before .before .text-past .ensures) (c .before .before .before .before .before .text-past2 .ensures) (c .before .before .before .before .number-at .ensures .0) (c .before .before .before .before .number-at .ensures .1) (t .start) (t .end) _ (c .before .before .before .if1 .left) (c .before .before .text-at .ensures .0) (c .marked-type .ensures)
+returns-2 c = let a = c .before .before .before .before .before .before .before .before .before .args in let t = c .before .before .text-at .result in size-struct (now (a .marks)) (now (a .s)) (a .at) _ _ _ (c .before .before .before .before .before .before .text-past .ensures) (c .before .before .before .before .before .text-past2 .ensures) (c .before .before .before .before .number-at .ensures .0) (c .before .before .before .before .number-at .ensures .1) (t .start) (t .end) _ (c .before .before .before .if1 .left) (part-text _ _ _ (c .before .before .text-at .ensures .0)) (c .marked-type .ensures)
 
 pub node-size-spec : {M : Type 1} → statement M
 node-size-spec =

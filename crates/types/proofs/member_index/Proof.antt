@@ -1,5 +1,6 @@
 -- The kind byte tells whether the member is a struct, and the search by name tells the number of its type.
 use denote.Ref.{now}
+use Rattle.fields.proofs.Checks.{part-text}
 use Rattle.types.proofs.Linking.{member-other, member-struct}
 use borrow.Author.Needs.{needs}
 use Rattle.types.proofs.member_index.Statement.{statement}
@@ -33,7 +34,7 @@ type-index-requires : tie.Need-type-index-requires
 type-index-requires c κs = search needs
 
 returns-2 : tie.Need-returns-2
-returns-2 c = let a = c .before .before .before .before .before .before .before .before .before .args in let t = c .before .before .text-at .result in member-struct (now (a .s)) (a .at) (a .count) _ _ _ (c .before .before .before .before .before .before .text-past .ensures) (c .before .before .before .before .before .text-past2 .ensures) (c .before .before .before .before .number-at .ensures .0) (c .before .before .before .before .number-at .ensures .1) (t .start) (t .end) _ (c .before .before .before .if1 .left) (c .before .before .text-at .ensures .0) (c .type-index .ensures)
+returns-2 c = let a = c .before .before .before .before .before .before .before .before .before .args in let t = c .before .before .text-at .result in member-struct (now (a .s)) (a .at) (a .count) _ _ _ (c .before .before .before .before .before .before .text-past .ensures) (c .before .before .before .before .before .text-past2 .ensures) (c .before .before .before .before .number-at .ensures .0) (c .before .before .before .before .number-at .ensures .1) (t .start) (t .end) _ (c .before .before .before .if1 .left) (part-text _ _ _ (c .before .before .text-at .ensures .0)) (c .type-index .ensures)
 
 pub member-index-spec : {M : Type 1} → statement M
 member-index-spec =

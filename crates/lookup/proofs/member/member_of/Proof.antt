@@ -1,5 +1,6 @@
 -- `member_of` meets its contract: the second text of a node is its type name, and the type found there has the members.
 use borrow.Author.Needs.{needs}
+use Rattle.fields.proofs.Checks.{part-text}
 use Rattle.nodes.proofs.Standing.{type-name-at}
 use Rattle.lookup.proofs.Types.{step-found, step-missing}
 use Rattle.lookup.proofs.member.member_of.Statement.{statement}
@@ -33,10 +34,10 @@ enum-told : tie.Need-enum-told
 enum-told c = search needs
 
 returns : tie.Need-returns
-returns c = step-found _ _ _ _ (type-name-at _ _ _ (c .before .before .before .before .before .before .text-at .result .start) (c .before .before .before .before .before .before .text-at .result .end) (c .before .before .before .before .before .before .before .text-past .ensures) (c .before .before .before .before .before .before .text-at .ensures .0)) _ (c .before .before .before .before .find-type .ensures) _ _ (c .before .before .found .given .1) (c .find-member .ensures)
+returns c = step-found _ _ _ _ (type-name-at _ _ _ (c .before .before .before .before .before .before .text-at .result .start) (c .before .before .before .before .before .before .text-at .result .end) (c .before .before .before .before .before .before .before .text-past .ensures) (part-text _ _ _ (c .before .before .before .before .before .before .text-at .ensures .0))) _ (c .before .before .before .before .find-type .ensures) _ _ (c .before .before .found .given .1) (c .find-member .ensures)
 
 returns-2 : tie.Need-returns-2
-returns-2 c = step-missing _ _ _ _ (type-name-at _ _ _ (c .before .before .before .before .text-at .result .start) (c .before .before .before .before .text-at .result .end) (c .before .before .before .before .before .text-past .ensures) (c .before .before .before .before .text-at .ensures .0)) _ (c .before .before .find-type .ensures) (c .enum-told .given .1)
+returns-2 c = step-missing _ _ _ _ (type-name-at _ _ _ (c .before .before .before .before .text-at .result .start) (c .before .before .before .before .text-at .result .end) (c .before .before .before .before .before .text-past .ensures) (part-text _ _ _ (c .before .before .before .before .text-at .ensures .0))) _ (c .before .before .find-type .ensures) (c .enum-told .given .1)
 
 pub member-of-spec : {M : Type 1} → statement M
 member-of-spec =

@@ -1,6 +1,7 @@
 -- The bytes that text_at told are the name at the place, so comparing them compares the name, by the law in Finds.
 use denote.Ref.{now}
 use borrow.Author.Needs.{needs}
+use Rattle.fields.proofs.Checks.{part-text}
 use Rattle.nodes.proofs.Finds.{alike-name}
 use Rattle.nodes.proofs.find.is_called.Statement.{statement}
 use Rattle.nodes.proofs.find.is_called.Tie as tie
@@ -21,7 +22,7 @@ equal-ignoring-case-requires : tie.Need-equal-ignoring-case-requires
 equal-ignoring-case-requires c κs = search needs
 
 returns : tie.Need-returns
-returns c = let t = c .before .before .text-at .result in alike-name (now (c .before .before .before .before .before .args .s)) (c .before .before .before .before .before .args .at) (t .start) (t .end) _ _ (c .before .before .text-at .ensures .0) (c .equal-ignoring-case .ensures)
+returns c = let t = c .before .before .text-at .result in alike-name (now (c .before .before .before .before .before .args .s)) (c .before .before .before .before .before .args .at) (t .start) (t .end) _ _ (part-text _ _ _ (c .before .before .text-at .ensures .0)) (c .equal-ignoring-case .ensures)
 
 pub is-called-spec : {M : Type 1} → statement M
 is-called-spec =

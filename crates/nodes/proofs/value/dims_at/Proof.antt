@@ -1,5 +1,4 @@
 -- The loop keeps that the dimensions stored, then those left, are all of them; the laws in Values on dimensions start, turn and end it.
-use mathlib.Core.Path.{refl}
 use Prim.Native.Nat.{_-_}
 use denote.Ref.{now}
 use borrow.Author.Needs.{needs}
@@ -20,7 +19,7 @@ past-requires : tie.Need-past-requires Inv-loop μ-loop
 past-requires c κs = search needs
 
 loop-holds : tie.Need-loop-holds Inv-loop μ-loop
-loop-holds c = dimming-start _ _ _ _ refl
+loop-holds c = dimming-start _ _ _
 
 number-at-requires-2 : tie.Need-number-at-requires-2 Inv-loop μ-loop
 number-at-requires-2 c κs = search needs

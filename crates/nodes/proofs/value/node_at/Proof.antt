@@ -1,8 +1,7 @@
 -- The fields read in turn are the node, by the law in Values on nodes.
 use denote.Ref.{now}
 use borrow.Author.Needs.{needs}
-use Rattle.nodes.specs.Reading.{textIn, nodeIn}
-use Rattle.nodes.proofs.Values.{node-value}
+use Rattle.nodes.proofs.Values.{node-told}
 use Rattle.nodes.proofs.value.node_at.Statement.{statement}
 use Rattle.nodes.proofs.value.node_at.Tie as tie
 
@@ -34,10 +33,9 @@ held-at-requires-2 : tie.Need-held-at-requires-2
 held-at-requires-2 c κs = search needs
 
 returns : tie.Need-returns
-unfolding nodeIn textIn
 returns c =
     let a = c .before .before .before .before .before .before .before .before .before .before .before .args in
-    (node-value (now (a .s)) (a .at) _ _ _ _ _ (c .before .before .before .before .before .before .before .before .text-past .ensures) (c .before .before .before .before .before .before .text-past2 .ensures) (c .before .before .before .before .past .ensures) (c .before .before .before .dims-at .ensures .1) (c .before .held-at .ensures .1) _ _ _ _ _ _ (c .before .before .before .before .before .before .before .before .before .text-at .ensures .0) (c .before .before .before .before .before .before .before .text-at2 .ensures .0) (c .before .before .before .before .before .kind-at .ensures) (c .before .before .before .dims-at .ensures .0) (c .before .held-at .ensures .0) (c .held-at2 .ensures .0), c .before .before .before .dims-at .ensures .2)
+    (node-told (now (a .s)) (a .at) _ _ _ _ _ (c .before .before .before .before .before .before .before .before .text-past .ensures) (c .before .before .before .before .before .before .text-past2 .ensures) (c .before .before .before .before .past .ensures) (c .before .before .before .dims-at .ensures .2) (c .before .held-at .ensures .1) _ _ _ _ _ _ _ (c .before .before .before .before .before .before .before .before .before .text-at .ensures .0) (c .before .before .before .before .before .before .before .text-at2 .ensures .0) (c .before .before .before .before .before .kind-at .ensures) (c .before .before .before .dims-at .ensures .0) (c .before .before .before .dims-at .ensures .1) (c .before .held-at .ensures .0) (c .held-at2 .ensures .0), c .before .before .before .dims-at .ensures .3)
 
 pub node-at-spec : {M : Type 1} → statement M
 node-at-spec =

@@ -1,6 +1,7 @@
 -- `elements_size` meets its contract: bits or whole values, and the product of count and value fits.
 use native.Mathlib.Omega.{arith}
 use borrow.Author.Needs.{needs}
+use Rattle.nodes.proofs.Values.{read-node}
 use Rattle.sizes.proofs.Replies.{elements-fit, elements-bits, elements-plain}
 use Rattle.sizes.proofs.reply.elements_size.Statement.{statement}
 use Rattle.sizes.proofs.reply.elements_size.Tie as tie
@@ -36,7 +37,7 @@ add-result-3 : tie.Need-add-result-3
 add-result-3 c = omega (arith, elements-fit _ _ (c .before .before .before .before .before .before .pre) (c .before .value-size .ensures .1), c .overhead-size .ensures .1)
 
 returns-2 : tie.Need-returns-2
-returns-2 c = elements-plain _ _ _ _ (c .before .before .node-at .result) _ _ (c .before .before .before .before .is-bits .ensures) (c .before .before .before .if1 .left) (c .before .before .node-at .ensures .0) (c .before .value-size .ensures .0) (c .overhead-size .ensures .0)
+returns-2 c = elements-plain _ _ _ _ (c .before .before .node-at .result) _ _ (c .before .before .before .before .is-bits .ensures) (c .before .before .before .if1 .left) (read-node _ _ _ (c .before .before .node-at .ensures .0)) (c .before .value-size .ensures .0) (c .overhead-size .ensures .0)
 
 pub elements-size-spec : {M : Type 1} → statement M
 elements-size-spec =

@@ -1,5 +1,6 @@
 -- `reply_size` meets its contract: value and overhead of the node found, or 12.
 use borrow.Author.Needs.{needs}
+use Rattle.nodes.proofs.Values.{read-node}
 use Rattle.sizes.proofs.Replies.{reply-unknown, reply-known}
 use Rattle.sizes.proofs.reply.reply_size.Statement.{statement}
 use Rattle.sizes.proofs.reply.reply_size.Tie as tie
@@ -26,7 +27,7 @@ returns : tie.Need-returns
 returns c = reply-unknown _ _ (c .enum-told .given .1)
 
 returns-2 : tie.Need-returns-2
-returns-2 c = reply-known _ _ _ (c .before .before .node-at .result) _ _ (c .before .before .before .before .found .given .1) (c .before .before .node-at .ensures .0) (c .before .value-size .ensures .0) (c .overhead-size .ensures .0)
+returns-2 c = reply-known _ _ _ (c .before .before .node-at .result) _ _ (c .before .before .before .before .found .given .1) (read-node _ _ _ (c .before .before .node-at .ensures .0)) (c .before .value-size .ensures .0) (c .overhead-size .ensures .0)
 
 pub reply-size-spec : {M : Type 1} → statement M
 reply-size-spec =
