@@ -63,7 +63,7 @@ same-name s at a b w r e h = h ∙ ap (λ x. same x w) (text-name s at a b e)
 pub alike-name : (s : List ℕ) (at a b : ℕ) (w : Text) (r : Bool) → part a b s ≡ textOf (drop at s) → r ≡ alike (part a b s) w → r ≡ alike (nameAt s at) w
 alike-name s at a b w r e h = h ∙ ap (λ x. alike x w) (text-name s at a b e)
 
-node-name : (s : List ℕ) (at : ℕ) → nameAt s at ≡ valueAt node s at .name
+pub node-name : (s : List ℕ) (at : ℕ) → nameAt s at ≡ valueAt node s at .name
 unfolding node nameAt
 node-name s at =
     sym (ap (λ (x : Node). x .name) (mapped-value _ _ nodeFields s at) ∙ ap (λ x. x .0) (then-value name (name then fromKind) s at lawful-name))
@@ -87,7 +87,7 @@ module _ (s : List ℕ) (w : Text) (ns : List Node) (r : Found) (h : foundIn s r
   exact-missing q e g = g ∙ ap (λ x. orElse x (find (isCalled w) ns)) (sym (ap (foundIn s) e) ∙ h)
 
 -- ---- the tags of a file
-tags-are : (s : List ℕ) → catalogOf s .tags ≡ valueAt (many node (valueAt counts s 1 .0)) s (placeAt counts s 1)
+pub tags-are : (s : List ℕ) → catalogOf s .tags ≡ valueAt (many node (valueAt counts s 1 .0)) s (placeAt counts s 1)
 unfolding catalogOf fileOf catalog mapped valueAt tagsAndTypes
 tags-are s =
     ap (λ (x : List Node × List TypeDef). x .0) (leading-value counts countsOf tagsAndTypes s 1 lawful-counts)

@@ -2,3 +2,4 @@ pub mod Places
 pub mod Values
 pub mod Finds
 pub mod Standing
+pub mod Accepting

@@ -72,7 +72,7 @@ types-from s k h = rw (types-are s) (values-from typeDef s lawful-type (valueAt 
 
 -- ---- a type at a place
 module _ (s : List ℕ) (at : ℕ) where
-  type-name : nameAt s at ≡ valueAt typeDef s at .name
+  pub type-name : nameAt s at ≡ valueAt typeDef s at .name
   unfolding typeDef nameAt
   type-name =
       sym (ap (λ (x : TypeDef). x .name) (mapped-value _ _ typeFields s at) ∙ ap (λ x. x .0) (then-value name (number 2 65535 then fromAoi) s at lawful-name))

@@ -8,28 +8,27 @@ use mathlib.Core.Option.{Option}
 use native.Mathlib.Omega.{arith}
 use lib.ListN.{length, take, drop}
 use borrow.Author.Tests.{le-leb}
-use Rattle.fields.specs.Format.{fine, bad}
+use Rattle.fields.specs.Format.{fine}
 use Rattle.fields.specs.Fields.{whole}
-use Rattle.fields.specs.declared.Refusal.the-variants.{TypesTooDeep}
 use Rattle.fields.proofs.LawfulFields.{limited-max}
 use Rattle.names.specs.Pieces.{andThen}
 use Rattle.catalog.specs.Catalog.{Node, TypeDef, Catalog, catalogOf}
-use Rattle.catalog.specs.Finding.{every}
-use Rattle.catalog.specs.Alike.{typePlaces}
-use Rattle.catalog.specs.Nesting.{nestsOver, deepest, firstDeep, nestingVerdict}
+use Rattle.catalog.specs.Finding.{any, every}
+use Rattle.catalog.specs.Nesting.{nestsOver, deepest, nestingVerdict}
 use Rattle.nodes.proofs.Places.{types-number}
-use Rattle.nodes.proofs.Standing.{types-count, type-places-count}
+use Rattle.nodes.proofs.Standing.{types-count}
+use Rattle.nodes.proofs.Accepting.{nesting-fine}
 use Rattle.types.specs.Whole.{isShallow, isMarkable}
 use Rattle.lookup.specs.Info.{structSize}
 use Rattle.structs.specs.Structs.{structTold}
 
-shallow-all : (c : Catalog) (ds : List TypeDef) (ps : List ℕ) → length ps ≡ length ds → firstDeep c ds ps ≡ fine → every (isShallow c) ds ≡ true
-unfolding firstDeep every isShallow
-shallow-all c [] ps l e = refl
-shallow-all c (d ∷ ds) [] l e = absurd (omega arith)
-shallow-all c (d ∷ ds) (p ∷ ps) l e = go (nestsOver deepest c d) e (shallow-all c ds ps (omega arith))
+-- what none is, each is not
+shallow-all : (c : Catalog) (ds : List TypeDef) → any (nestsOver deepest c) ds ≡ false → every (isShallow c) ds ≡ true
+unfolding any every isShallow
+shallow-all c [] e = refl
+shallow-all c (d ∷ ds) e = go (nestsOver deepest c d) e (shallow-all c ds)
   where
-    go : (b : Bool) → cond b (bad (TypesTooDeep p)) (firstDeep c ds ps) ≡ fine → (firstDeep c ds ps ≡ fine → every (isShallow c) ds ≡ true)
+    go : (b : Bool) → cond b true (any (nestsOver deepest c) ds) ≡ false → (any (nestsOver deepest c) ds ≡ false → every (isShallow c) ds ≡ true)
         → cond (not b) (every (isShallow c) ds) false ≡ true
     go true f g = let z : _≡_ {A = ℕ} 0 1 = cc in absurd (omega arith)
     go false f g = g f
@@ -42,8 +41,8 @@ types-few s =
     omega arith
 
 markable : (s : List ℕ) → nestingVerdict s ≡ fine → isMarkable (catalogOf s) 128 ≡ true
-unfolding isMarkable nestingVerdict
-markable s e = rw (le-leb (length (catalogOf s .types)) 128 (types-few s)) (shallow-all (catalogOf s) (catalogOf s .types) (typePlaces s) (type-places-count s) e)
+unfolding isMarkable
+markable s e = rw (le-leb (length (catalogOf s .types)) 128 (types-few s)) (shallow-all (catalogOf s) (catalogOf s .types) (nesting-fine s e))
 
 pub struct-is : (s : List ℕ) (o : Option Node) → nestingVerdict s ≡ fine → structTold (catalogOf s) o ≡ andThen o (structSize (catalogOf s))
 unfolding structTold
