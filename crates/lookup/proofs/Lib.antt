@@ -1,4 +1,5 @@
 pub mod Atomics
 pub mod Paths
+pub mod Placed
 pub mod Plain
 pub mod Types

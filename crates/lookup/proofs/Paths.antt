@@ -1,35 +1,24 @@
--- The node of a full name: the program part, the name with its brackets left out, and the members that it names.
+-- Where a name without brackets leads: its parts, the tag that it starts with, and the members that it names.
 -- Assumes nothing.
-use Prim.Native.Nat.{ℕ, zero, suc, _+_, _-_, _≤_, _<_}
-use mathlib.Core.Path.{_≡_, refl, sym, ap, ap₂, subst, _∙_}
-use mathlib.Core.Bool.{Bool, true, false, cond, not}
+use Prim.Native.Nat.{ℕ, _+_, _-_, _≤_, _<_}
+use mathlib.Core.Path.{_≡_, refl, sym, ap, _∙_}
 use mathlib.Core.List.{List, [], _∷_, _++_}
-use mathlib.Core.Option.{Option, none, some}
+use mathlib.Core.Option.{Option}
 use native.Mathlib.Omega.{arith}
-use lib.Dec.{eqb, leb, ltb}
-use lib.ListN.{length, take, drop, getD, length-append, length-take, length-drop}
-use lib.Seq.{take-add, take-append-seam, drop-append-seam, take-append-add}
-use borrow.Author.Tests.{lt-ltb, le-ltb, le-leb, lt-leb, eq-eqb, ne-eqb, leb-true, leb-false}
+use lib.Dec.{eqb}
+use lib.ListN.{length, take, drop}
+use lib.Seq.{take-add}
 use Rattle.fields.specs.Text.{Text}
-use Rattle.fields.specs.Places.{scan, valueAt, part}
-use Rattle.fields.specs.Writing.{patch, answered, writing, buffer}
-use Rattle.fields.specs.Format.{fine}
-use Rattle.fields.specs.declared.Written.{Written}
-use Rattle.fields.specs.declared.Written.the-variants.{Done, Refused}
-use Rattle.fields.proofs.Lists.{drop-next, drop-past, cond-elim}
-use Rattle.fields.proofs.Filling.{Filling, filling-start, filling-next, filling-end}
+use Rattle.fields.specs.Places.{scan, part}
+use Rattle.fields.proofs.Lists.{drop-next, drop-past}
 use Rattle.names.specs.Pieces.{andThen, parts, isNot}
-use Rattle.names.specs.Name.{inProgram, isUndotted, programLength}
-use Rattle.names.specs.Strip.{stripped}
-use Rattle.names.specs.Listing.{longestName}
-use Rattle.names.proofs.Indexing.{PartAt, part-at, laterParts}
-use Rattle.catalog.specs.Catalog.{Node, Catalog, node, catalogOf}
-use Rattle.nodes.specs.Reading.{foundIn}
-use Rattle.nodes.specs.Lookup.{orElse, tagOf}
+use Rattle.names.proofs.Indexing.{part-at, laterParts}
+use Rattle.nodes.specs.Placed.{foundTold, tagPlace}
 use Rattle.nodes.specs.declared.Found.{Found}
 use Rattle.nodes.specs.declared.Found.the-variants.{At, Nowhere}
-use Rattle.lookup.specs.Info.{memberStep, memberOf, pathOf, prefixLength, infoOf, lookedUp}
-use Rattle.lookup.specs.Told.{plainName, nodeOfPath, partsBehind, membersFrom}
+use Rattle.lookup.specs.Told.{partsBehind}
+use Rattle.lookup.specs.Placed.{memberPlace, membersPlace, pathPlace, plainPlace, membersFrom}
+use Rattle.lookup.proofs.Types.{onward-found, onward-missing}
 
 -- ---- the members that a path names
 behind-same : (l : Text) → laterParts (eqb 46) l ≡ partsBehind l
@@ -45,42 +34,36 @@ pub part-within : (t : Text) (at e : ℕ) → at ≤ length t → e ≡ scan (is
 part-within t at e h q = let k = part-at 46 t at e h q in (k .within, k .ends)
 
 -- where nothing is left, the node itself
-pub members-end : (s t : List ℕ) (e p : ℕ) (all : Option Node) → length t ≤ e → membersFrom (catalogOf s) (valueAt node s p) t e ≡ all → foundIn s (At p) ≡ all
-unfolding membersFrom partsBehind memberOf foundIn
-members-end s t e p all h i = rw (drop-past t e h) at i
+pub members-end : (s t : List ℕ) (e p : ℕ) (all : Option ℕ) → length t ≤ e → membersFrom s p t e ≡ all → At p ≡ foundTold all
+unfolding membersFrom partsBehind membersPlace foundTold
+members-end s t e p all h i = ap foundTold (rw (drop-past t e h) at i)
 
-module _ (s t : List ℕ) (e p : ℕ) (all : Option Node) (h : e < length t) (i : membersFrom (catalogOf s) (valueAt node s p) t e ≡ all) (end : ℕ) (q : end ≡ scan (isNot 46) (drop (e + 1) t) (e + 1)) (f : Found)
-    (g : foundIn s f ≡ memberStep (catalogOf s) (valueAt node s p) (part (e + 1) end t)) where
-  members-are : membersFrom (catalogOf s) (valueAt node s p) t e ≡ andThen (foundIn s f) (λ m. membersFrom (catalogOf s) m t end)
-  unfolding membersFrom partsBehind memberOf
-  members-are =
-      ap (λ l. memberOf (catalogOf s) (valueAt node s p) (partsBehind l)) (drop-next t e h)
-      ∙ ap (memberOf (catalogOf s) (valueAt node s p)) (parts-are t (e + 1) end (omega arith) q)
-      ∙ ap (λ o. andThen o (λ m. memberOf (catalogOf s) m (partsBehind (drop end t)))) (sym g)
+module _ (s t : List ℕ) (e p : ℕ) (all : Option ℕ) (h : e < length t) (i : membersFrom s p t e ≡ all) (end : ℕ) (q : end ≡ scan (isNot 46) (drop (e + 1) t) (e + 1)) (f : Found)
+    (g : f ≡ foundTold (memberPlace s p (part (e + 1) end t))) where
+  members-are : membersFrom s p t e ≡ andThen (memberPlace s p (part (e + 1) end t)) (λ m. membersFrom s m t end)
+  unfolding membersFrom partsBehind membersPlace
+  members-are = ap (λ l. membersPlace s p (partsBehind l)) (drop-next t e h) ∙ ap (membersPlace s p) (parts-are t (e + 1) end (omega arith) q)
 
-  pub members-next : (r : ℕ) → f ≡ At r → membersFrom (catalogOf s) (valueAt node s r) t end ≡ all
-  unfolding andThen foundIn
-  members-next r k = sym (ap (λ o. andThen (foundIn s o) (λ m. membersFrom (catalogOf s) m t end)) k) ∙ sym members-are ∙ i
+  pub members-next : (r : ℕ) → f ≡ At r → membersFrom s r t end ≡ all
+  members-next r k = sym (members-are ∙ onward-found (memberPlace s p (part (e + 1) end t)) (λ m. membersFrom s m t end) f g r k) ∙ i
 
-  pub members-missing : f ≡ Nowhere → foundIn s Nowhere ≡ all
-  unfolding andThen foundIn
-  members-missing k = sym (ap (λ o. andThen (foundIn s o) (λ m. membersFrom (catalogOf s) m t end)) k) ∙ sym members-are ∙ i
+  pub members-missing : f ≡ Nowhere → Nowhere ≡ foundTold all
+  unfolding foundTold
+  members-missing k = ap foundTold (sym (members-are ∙ onward-missing (memberPlace s p (part (e + 1) end t)) (λ m. membersFrom s m t end) f g k) ∙ i)
 
 -- ---- the tag that a path starts with
-module _ (s t : List ℕ) (h e : ℕ) (l : h ≤ length t) (q : e ≡ scan (isNot 46) (drop h t) h) (f : Found) (g : foundIn s f ≡ tagOf (catalogOf s) (take e t)) where
-  path-is : nodeOfPath (catalogOf s) t h ≡ andThen (foundIn s f) (λ n. membersFrom (catalogOf s) n t e)
-  unfolding nodeOfPath pathOf membersFrom
-  path-is =
+module _ (s t : List ℕ) (h e : ℕ) (l : h ≤ length t) (q : e ≡ scan (isNot 46) (drop h t) h) (f : Found) (g : f ≡ foundTold (tagPlace s (take e t))) where
+  plain-is : plainPlace s t h ≡ andThen (tagPlace s (take e t)) (λ p. membersFrom s p t e)
+  unfolding plainPlace pathPlace membersFrom
+  plain-is =
       let w = part-within t h e l q in
       let k : h + (e - h) ≡ e = omega arith in
       let j : take h t ++ part h e t ≡ take e t = sym (take-add h (e - h) t) ∙ ap (λ n. take n t) k in
-      ap (pathOf (catalogOf s) (take h t)) (parts-are t h e l q) ∙ ap (λ x. andThen (tagOf (catalogOf s) x) (λ n. memberOf (catalogOf s) n (partsBehind (drop e t)))) j
-      ∙ ap (λ o. andThen o (λ n. memberOf (catalogOf s) n (partsBehind (drop e t)))) (sym g)
+      ap (pathPlace s (take h t)) (parts-are t h e l q) ∙ ap (λ x. andThen (tagPlace s x) (λ p. membersPlace s p (partsBehind (drop e t)))) j
 
-  pub path-found : (p : ℕ) (r : Found) → f ≡ At p → foundIn s r ≡ membersFrom (catalogOf s) (valueAt node s p) t e → foundIn s r ≡ nodeOfPath (catalogOf s) t h
-  unfolding andThen foundIn
-  path-found p r k m = m ∙ sym (path-is ∙ ap (λ o. andThen (foundIn s o) (λ n. membersFrom (catalogOf s) n t e)) k)
+  pub path-found : (p : ℕ) (r : Found) → f ≡ At p → r ≡ foundTold (membersFrom s p t e) → r ≡ foundTold (plainPlace s t h)
+  path-found p r k m = m ∙ sym (ap foundTold (plain-is ∙ onward-found (tagPlace s (take e t)) (λ n. membersFrom s n t e) f g p k))
 
-  pub path-missing : f ≡ Nowhere → foundIn s Nowhere ≡ nodeOfPath (catalogOf s) t h
-  unfolding andThen foundIn
-  path-missing k = sym (path-is ∙ ap (λ o. andThen (foundIn s o) (λ n. membersFrom (catalogOf s) n t e)) k)
+  pub path-missing : f ≡ Nowhere → Nowhere ≡ foundTold (plainPlace s t h)
+  unfolding foundTold
+  path-missing k = sym (ap foundTold (plain-is ∙ onward-missing (tagPlace s (take e t)) (λ n. membersFrom s n t e) f g k))

@@ -2,14 +2,14 @@
 -- Assumes nothing.
 use Prim.Native.Nat.{ℕ, zero, suc, _+_, _-_, _≤_, _<_}
 use mathlib.Core.Path.{_≡_, refl, sym, ap, ap₂, subst, _∙_}
-use mathlib.Core.Bool.{Bool, true, false, cond, not, true≢false, false≢true}
+use mathlib.Core.Bool.{Bool, true, false, cond}
 use mathlib.Core.List.{List, [], _∷_, _++_, append-nil}
-use mathlib.Core.Option.{Option, none, some}
+use mathlib.Core.Option.{Option}
 use native.Mathlib.Omega.{arith}
-use lib.Dec.{eqb, leb, ltb}
+use lib.Dec.{eqb, leb}
 use lib.ListN.{length, take, drop, getD, length-append, length-take, length-drop}
-use lib.Seq.{take-all, take-at, drop-at, take-append-seam, length-take-le}
-use borrow.Author.Tests.{lt-ltb, le-ltb, le-leb, lt-leb, eq-eqb, ne-eqb, leb-true, leb-false, eqb-true, eqb-false, not-true, not-false}
+use lib.Seq.{take-all, take-at, drop-at, length-take-le}
+use borrow.Author.Tests.{lt-ltb, le-ltb, le-leb, lt-leb, leb-true, leb-false, eqb-true, eqb-false, not-true, not-false}
 use Rattle.fields.specs.Text.{Text}
 use Rattle.fields.specs.Places.{scan}
 use Rattle.fields.specs.Writing.{patch, answered, writing, buffer}
@@ -23,13 +23,14 @@ use Rattle.names.specs.Pieces.{parts}
 use Rattle.names.specs.Name.{inProgram, isUndotted, programLength}
 use Rattle.names.specs.Strip.{skipping, isKept, stripFrom, stripped}
 use Rattle.names.specs.Listing.{longestName}
-use Rattle.catalog.specs.Catalog.{Node, Catalog, catalogOf}
-use Rattle.nodes.specs.Reading.{foundIn}
-use Rattle.nodes.specs.Lookup.{orElse, tagOf}
+use Rattle.nodes.specs.Lookup.{orElse}
+use Rattle.nodes.specs.Placed.{foundTold, tagPlace}
 use Rattle.nodes.specs.declared.Found.{Found}
 use Rattle.nodes.specs.declared.Found.the-variants.{At, Nowhere}
-use Rattle.lookup.specs.Info.{pathOf, prefixLength, infoOf, lookedUp}
-use Rattle.lookup.specs.Told.{plainName, nodeOfPath}
+use Rattle.nodes.proofs.Finds.{exact-found, exact-missing}
+use Rattle.lookup.specs.Info.{prefixLength}
+use Rattle.lookup.specs.Told.{plainName}
+use Rattle.lookup.specs.Placed.{pathPlace, infoPlace, lookedPlace, plainPlace}
 
 -- ---- where a scan ends
 scan-passes : (f : ℕ → Bool) (s : Text) (i k : ℕ) → i + length s ≤ scan f s i → k < length s → f (getD s k 0) ≡ true
@@ -192,8 +193,8 @@ module _ (s p zeros : List ℕ) (h : ℕ) (e : p ≡ drop h s) (l : h ≤ length
       (omega arith, k .1, o ∙ filling-end file old (patch out₁ h (stripped p)) (h + length (stripped p)) a₂ ∙ ap (λ v. answered v old) (sym i))
 
 -- ---- the whole name
-pub too-long : (s name : List ℕ) → longestName < length name → foundIn s Nowhere ≡ lookedUp (catalogOf s) name
-unfolding lookedUp foundIn
+pub too-long : (s name : List ℕ) → longestName < length name → Nowhere ≡ foundTold (lookedPlace s name)
+unfolding lookedPlace foundTold
 too-long s name h = rw (lt-ltb longestName (length name) h)
 
 -- what was written is the front of the buffer
@@ -209,21 +210,22 @@ spelled-within name old out h n e a l =
     let d = length-take-le h name l in
     let t = ap length (spelled-part (take h name ++ stripped (drop h name)) old out n e a) in omega arith
 
-module _ (s name : List ℕ) (f : Found) (g : foundIn s f ≡ tagOf (catalogOf s) name) where
-  module _ (h : length name ≤ longestName) where
-    looked : lookedUp (catalogOf s) name ≡ orElse (foundIn s f) (pathOf (catalogOf s) (take (prefixLength name) name) (parts (eqb 46) (stripped (drop (prefixLength name) name))))
-    unfolding lookedUp infoOf
-    looked = rw (le-ltb longestName (length name) h, g)
+module _ (s name : List ℕ) (f : Found) (g : f ≡ foundTold (tagPlace s name)) (h : length name ≤ longestName) where
+  abbrev path : Option ℕ
+  path = pathPlace s (take (prefixLength name) name) (parts (eqb 46) (stripped (drop (prefixLength name) name)))
 
-    pub info-tag : (p : ℕ) → f ≡ At p → foundIn s (At p) ≡ lookedUp (catalogOf s) name
-    unfolding orElse foundIn
-    info-tag p e = sym (looked ∙ ap (λ x. orElse (foundIn s x) (pathOf (catalogOf s) (take (prefixLength name) name) (parts (eqb 46) (stripped (drop (prefixLength name) name))))) e)
+  looked : lookedPlace s name ≡ orElse (tagPlace s name) path
+  unfolding lookedPlace infoPlace
+  looked = rw (le-ltb longestName (length name) h)
 
-    pub info-path : (k : ℕ) (t : Text) (r : Found) → f ≡ Nowhere → k ≡ prefixLength name → k ≤ length name → t ≡ plainName name k → foundIn s r ≡ nodeOfPath (catalogOf s) t k → foundIn s r ≡ lookedUp (catalogOf s) name
-    unfolding orElse foundIn nodeOfPath plainName
-    info-path k t r e q l u m =
-        let n : length (take k name) ≡ k = length-take-le k name l in
-        let a : take k t ≡ take k name = ap (take k) u ∙ take-at (take k name) (stripped (drop k name)) k n in
-        let b : drop k t ≡ stripped (drop k name) = ap (drop k) u ∙ drop-at (take k name) (stripped (drop k name)) k n in
-        m ∙ ap₂ (λ x y. pathOf (catalogOf s) x (parts (eqb 46) y)) a b ∙ ap (λ j. pathOf (catalogOf s) (take j name) (parts (eqb 46) (stripped (drop j name)))) q
-        ∙ sym (looked ∙ ap (λ x. orElse (foundIn s x) (pathOf (catalogOf s) (take (prefixLength name) name) (parts (eqb 46) (stripped (drop (prefixLength name) name))))) e)
+  pub info-tag : (p : ℕ) → f ≡ At p → At p ≡ foundTold (lookedPlace s name)
+  info-tag p e = exact-found (tagPlace s name) path f g p e ∙ sym (ap foundTold looked)
+
+  pub info-path : (k : ℕ) (t : Text) (r : Found) → f ≡ Nowhere → k ≡ prefixLength name → k ≤ length name → t ≡ plainName name k → r ≡ foundTold (plainPlace s t k) → r ≡ foundTold (lookedPlace s name)
+  unfolding plainPlace plainName
+  info-path k t r e q l u m =
+      let n : length (take k name) ≡ k = length-take-le k name l in
+      let a : take k t ≡ take k name = ap (take k) u ∙ take-at (take k name) (stripped (drop k name)) k n in
+      let b : drop k t ≡ stripped (drop k name) = ap (drop k) u ∙ drop-at (take k name) (stripped (drop k name)) k n in
+      let c : pathPlace s (take k t) (parts (eqb 46) (drop k t)) ≡ path = ap₂ (λ x y. pathPlace s x (parts (eqb 46) y)) a b ∙ ap (λ j. pathPlace s (take j name) (parts (eqb 46) (stripped (drop j name)))) q in
+      exact-missing (tagPlace s name) path f g r e (m ∙ ap foundTold c) ∙ sym (ap foundTold looked)

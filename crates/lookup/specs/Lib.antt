@@ -1,3 +1,4 @@
 pub mod Info
 pub mod Atomic
 pub mod Told
+pub mod Placed

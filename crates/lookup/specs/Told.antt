@@ -9,10 +9,9 @@ use Rattle.fields.specs.Text.{Text}
 use Rattle.fields.specs.Places.{valueAt}
 use Rattle.names.specs.Pieces.{parts}
 use Rattle.names.specs.Strip.{stripped}
-use Rattle.catalog.specs.Catalog.{Node, TypeDef, Catalog, typeDef}
+use Rattle.catalog.specs.Catalog.{TypeDef, typeDef}
 use Rattle.nodes.specs.declared.Found.{Found}
 use Rattle.nodes.specs.declared.Found.the-variants.{At, Nowhere}
-use Rattle.lookup.specs.Info.{memberOf, pathOf}
 use Rattle.lookup.specs.declared.Bytes.{Bytes}
 use Rattle.lookup.specs.declared.Bytes.the-variants.{Known, Unknown}
 
@@ -30,15 +29,7 @@ bytesTold (some n) = Known n
 unfoldable pub plainName : Text → ℕ → Text
 plainName s h = take h s ++ stripped (drop h s)
 
--- the node of a name without brackets, of which the program part has `h` bytes
-unfoldable pub nodeOfPath : Catalog → Text → ℕ → Option Node
-nodeOfPath c t h = pathOf c (take h t) (parts (eqb 46) (drop h t))
-
 -- the parts of a path behind the one that ends at the place `e`
 unfoldable pub partsBehind : Text → List Text
 partsBehind [] = []
 partsBehind (b ∷ r) = parts (eqb 46) r
-
--- the members that a path names behind the place `e`
-unfoldable pub membersFrom : Catalog → Node → Text → ℕ → Option Node
-membersFrom c n t e = memberOf c n (partsBehind (drop e t))

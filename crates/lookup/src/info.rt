@@ -11,12 +11,11 @@ ghost use mathlib.Core.Path.{_≡_};
 ghost use Prim.Native.Nat.{_≤_};
 ghost use lib.ListN.{length};
 ghost use Rattle.fields.specs.Writing.{answered};
-ghost use Rattle.fields.specs.Places.{valueAt};
-ghost use Rattle.catalog.specs.Catalog.{node, catalogOf};
 ghost use Rattle.names.specs.Listing.{longestName};
-ghost use Rattle.nodes.specs.Reading.{foundIn};
-ghost use Rattle.lookup.specs.Info.{prefixLength, lookedUp};
-ghost use Rattle.lookup.specs.Told.{plainName, nodeOfPath, membersFrom};
+ghost use Rattle.nodes.specs.Placed.{foundTold};
+ghost use Rattle.lookup.specs.Info.{prefixLength};
+ghost use Rattle.lookup.specs.Told.{plainName};
+ghost use Rattle.lookup.specs.Placed.{lookedPlace, plainPlace, membersFrom};
 
 // How many bytes the program part has, 0 where no dot ends it.
 fn prefix_end(name: &[u8]) -> usize
@@ -55,7 +54,7 @@ fn spell(name: &[u8], h: usize, out: &mut [u8]) -> usize
 
 // The members of a node that a path names, of which a part ends at the place from.
 fn members_of(s: &[u8], t: &[u8], from: usize, tag: usize) -> Found
-    ensures { λ r. ⌜ foundIn (now (s .entry)) r ≡ membersFrom (catalogOf (now (s .entry))) (valueAt node (now (s .entry)) tag) (now (t .entry)) from ⌝ }
+    ensures { λ r. ⌜ r ≡ foundTold (membersFrom (now (s .entry)) tag (now (t .entry)) from) ⌝ }
 {
     let mut e = from;
     let mut p = tag;
@@ -79,7 +78,7 @@ fn members_of(s: &[u8], t: &[u8], from: usize, tag: usize) -> Found
 // The node of a name without brackets, of which the program part has h bytes.
 fn node_of_path(s: &[u8], t: &[u8], h: usize) -> Found
     requires { ⌜ h ≤ length (now t) ⌝ }
-    ensures { λ r. ⌜ foundIn (now (s .entry)) r ≡ nodeOfPath (catalogOf (now (s .entry))) (now (t .entry)) h ⌝ }
+    ensures { λ r. ⌜ r ≡ foundTold (plainPlace (now (s .entry)) (now (t .entry)) h) ⌝ }
 {
     let e = place_of(t, h, b'.');
     let found = find_tag(s, &t[..e]);
@@ -91,7 +90,7 @@ fn node_of_path(s: &[u8], t: &[u8], h: usize) -> Found
 
 // The node of a full name: as a tag first, else through members.
 pub fn info(s: &[u8], name: &[u8]) -> Found
-    ensures { λ r. ⌜ foundIn (now (s .entry)) r ≡ lookedUp (catalogOf (now (s .entry))) (now (name .entry)) ⌝ }
+    ensures { λ r. ⌜ r ≡ foundTold (lookedPlace (now (s .entry)) (now (name .entry))) ⌝ }
 {
     if 136 < name.len() {
         return Found::Nowhere;

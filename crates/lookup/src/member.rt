@@ -11,16 +11,12 @@ use nodes::place::type_count;
 use nodes::place::type_past;
 use nodes::place::types_start;
 ghost use mathlib.Core.Path.{_≡_};
-ghost use Rattle.fields.specs.Places.{valueAt};
-ghost use Rattle.catalog.specs.Catalog.{node, typeDef, catalogOf};
-ghost use Rattle.catalog.specs.Finding.{typeNamed};
-ghost use Rattle.nodes.specs.Reading.{foundIn};
-ghost use Rattle.lookup.specs.Info.{memberCalled, memberStep};
-ghost use Rattle.lookup.specs.Told.{typeIn};
+ghost use Rattle.nodes.specs.Placed.{foundTold};
+ghost use Rattle.lookup.specs.Placed.{typePlace, memberPlaceOf, memberPlace};
 
 // The type of a name.
 pub fn find_type(s: &[u8], name: &[u8]) -> Found
-    ensures { λ r. ⌜ typeIn (now (s .entry)) r ≡ typeNamed (catalogOf (now (s .entry))) (now (name .entry)) ⌝ }
+    ensures { λ r. ⌜ r ≡ foundTold (typePlace (now (s .entry)) (now (name .entry))) ⌝ }
 {
     let mut at = types_start(s);
     let mut k = type_count(s);
@@ -36,7 +32,7 @@ pub fn find_type(s: &[u8], name: &[u8]) -> Found
 
 // The member of the type at a place.
 fn find_member(s: &[u8], at: usize, name: &[u8]) -> Found
-    ensures { λ r. ⌜ foundIn (now (s .entry)) r ≡ memberCalled (now (name .entry)) (valueAt typeDef (now (s .entry)) at) ⌝ }
+    ensures { λ r. ⌜ r ≡ foundTold (memberPlaceOf (now (s .entry)) (now (name .entry)) at) ⌝ }
 {
     let count = members_count_place(s, at);
     find_node(s, past(s, count, 2), member_count(s, count), name)
@@ -44,7 +40,7 @@ fn find_member(s: &[u8], at: usize, name: &[u8]) -> Found
 
 // The member of the node at a place, by the node's type.
 pub fn member_of(s: &[u8], at: usize, name: &[u8]) -> Found
-    ensures { λ r. ⌜ foundIn (now (s .entry)) r ≡ memberStep (catalogOf (now (s .entry))) (valueAt node (now (s .entry)) at) (now (name .entry)) ⌝ }
+    ensures { λ r. ⌜ r ≡ foundTold (memberPlace (now (s .entry)) at (now (name .entry))) ⌝ }
 {
     let of = text_at(s, text_past(s, at));
     let start = of.start;

@@ -8,13 +8,10 @@ use fields::text::equal;
 use fields::text::equal_ignoring_case;
 ghost use mathlib.Core.Path.{_≡_};
 ghost use Rattle.fields.specs.Text.{same, alike};
-ghost use Rattle.fields.specs.Format.{many};
-ghost use Rattle.fields.specs.Places.{valueAt};
-ghost use Rattle.catalog.specs.Catalog.{node, catalogOf};
+ghost use Rattle.catalog.specs.Catalog.{node};
 ghost use Rattle.catalog.specs.Finding.{find};
-ghost use Rattle.catalog.specs.Alike.{nameAt};
-ghost use Rattle.nodes.specs.Reading.{foundIn};
-ghost use Rattle.nodes.specs.Lookup.{isNamed, isCalled, nodeNamed, tagOf};
+ghost use Rattle.catalog.specs.Alike.{placesFrom, nameAt};
+ghost use Rattle.nodes.specs.Placed.{foundTold, isNamedAt, isCalledAt, nodePlace, tagPlace};
 
 // Whether the name at a place is just this one.
 pub fn is_named(s: &[u8], at: usize, name: &[u8]) -> bool
@@ -38,7 +35,7 @@ pub fn is_called(s: &[u8], at: usize, name: &[u8]) -> bool
 
 // The first of so many nodes of just this name.
 fn find_named(s: &[u8], from: usize, n: usize, name: &[u8]) -> Found
-    ensures { λ r. ⌜ foundIn (now (s .entry)) r ≡ find (isNamed (now (name .entry))) (valueAt (many node n) (now (s .entry)) from) ⌝ }
+    ensures { λ r. ⌜ r ≡ foundTold (find (isNamedAt (now (s .entry)) (now (name .entry))) (placesFrom node n (now (s .entry)) from)) ⌝ }
 {
     let mut at = from;
     let mut k = n;
@@ -54,7 +51,7 @@ fn find_named(s: &[u8], from: usize, n: usize, name: &[u8]) -> Found
 
 // The first of so many nodes of this name, case ignored.
 fn find_called(s: &[u8], from: usize, n: usize, name: &[u8]) -> Found
-    ensures { λ r. ⌜ foundIn (now (s .entry)) r ≡ find (isCalled (now (name .entry))) (valueAt (many node n) (now (s .entry)) from) ⌝ }
+    ensures { λ r. ⌜ r ≡ foundTold (find (isCalledAt (now (s .entry)) (now (name .entry))) (placesFrom node n (now (s .entry)) from)) ⌝ }
 {
     let mut at = from;
     let mut k = n;
@@ -70,7 +67,7 @@ fn find_called(s: &[u8], from: usize, n: usize, name: &[u8]) -> Found
 
 // The node of a name among so many: exact spelling first, then case ignored.
 pub fn find_node(s: &[u8], from: usize, n: usize, name: &[u8]) -> Found
-    ensures { λ r. ⌜ foundIn (now (s .entry)) r ≡ nodeNamed (now (name .entry)) (valueAt (many node n) (now (s .entry)) from) ⌝ }
+    ensures { λ r. ⌜ r ≡ foundTold (nodePlace (now (s .entry)) (now (name .entry)) (placesFrom node n (now (s .entry)) from)) ⌝ }
 {
     let exact = find_named(s, from, n, name);
     match exact {
@@ -81,7 +78,7 @@ pub fn find_node(s: &[u8], from: usize, n: usize, name: &[u8]) -> Found
 
 // The tag of a name.
 pub fn find_tag(s: &[u8], name: &[u8]) -> Found
-    ensures { λ r. ⌜ foundIn (now (s .entry)) r ≡ tagOf (catalogOf (now (s .entry))) (now (name .entry)) ⌝ }
+    ensures { λ r. ⌜ r ≡ foundTold (tagPlace (now (s .entry)) (now (name .entry))) ⌝ }
 {
     find_node(s, tags_start(s), tag_count(s), name)
 }

@@ -1,6 +1,8 @@
 -- Refused as its inputs are, else the size by the definition: in a catalog that was accepted every type can be marked.
-use mathlib.Core.Path.{sym, _∙_}
+use mathlib.Core.Path.{sym, ap, _∙_}
 use borrow.Author.Needs.{needs}
+use Rattle.nodes.specs.Reading.{foundIn}
+use Rattle.lookup.proofs.Placed.{looked-is}
 use Rattle.queries.proofs.Asking.{struct-refused, struct-known, struct-unknown}
 use Rattle.queries.proofs.struct_size.Statement.{statement}
 use Rattle.queries.proofs.struct_size.Tie as tie
@@ -30,10 +32,10 @@ returns : tie.Need-returns
 returns c = struct-refused _ _ _ _ _ (sym (c .before .before .before .check-query .ensures) ∙ c .before .v .given .1)
 
 returns-2 : tie.Need-returns-2
-returns-2 c = struct-known _ _ _ _ (sym (c .before .before .before .before .before .before .before .check-query .ensures) ∙ c .before .before .before .before .before .enum-told .given .1) _ (c .before .before .before .before .info .ensures) _ (c .before .before .before .whole-size .ensures) _ (c .before .size .given .1)
+returns-2 c = struct-known _ _ _ _ (sym (c .before .before .before .before .before .before .before .check-query .ensures) ∙ c .before .before .before .before .before .enum-told .given .1) _ (ap (foundIn _) (c .before .before .before .before .info .ensures) ∙ looked-is _ _) _ (c .before .before .before .whole-size .ensures) _ (c .before .size .given .1)
 
 returns-3 : tie.Need-returns-3
-returns-3 c = struct-unknown _ _ _ _ (sym (c .before .before .before .before .before .before .check-query .ensures) ∙ c .before .before .before .before .enum-told .given .1) _ (c .before .before .before .info .ensures) _ (c .before .before .whole-size .ensures) (c .enum-told2 .given .1)
+returns-3 c = struct-unknown _ _ _ _ (sym (c .before .before .before .before .before .before .check-query .ensures) ∙ c .before .before .before .before .enum-told .given .1) _ (ap (foundIn _) (c .before .before .before .info .ensures) ∙ looked-is _ _) _ (c .before .before .whole-size .ensures) (c .enum-told2 .given .1)
 
 pub struct-size-spec : {M : Type 1} → statement M
 struct-size-spec =

@@ -5,15 +5,13 @@ use native.Mathlib.Omega.{arith}
 use lib.ListN.{length}
 use borrow.Author.Needs.{needs}
 use denote.Ref.{now}
-use Rattle.lookup.specs.Told.{membersFrom}
-use Rattle.catalog.specs.Catalog.{node, catalogOf}
-use Rattle.fields.specs.Places.{valueAt}
+use Rattle.lookup.specs.Placed.{membersFrom}
 use Rattle.lookup.proofs.Paths.{part-within, members-end, members-next, members-missing}
 use Rattle.lookup.proofs.info.members_of.Statement.{statement}
 use Rattle.lookup.proofs.info.members_of.Tie as tie
 
 abbrev Inv-loop : tie.InvT-loop
-Inv-loop s t from tag e₀ p₀ e p = membersFrom (catalogOf s) (valueAt node s p) t e ≡ membersFrom (catalogOf s) (valueAt node s tag) t from
+Inv-loop s t from tag e₀ p₀ e p = membersFrom s p t e ≡ membersFrom s tag t from
 
 abbrev μ-loop : tie.MeasureT-loop
 μ-loop s t from tag e₀ p₀ e p = length t - e

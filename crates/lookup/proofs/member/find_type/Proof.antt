@@ -1,16 +1,18 @@
--- `find_type` meets its contract: what is left of the types gives what all of them give.
+-- `find_type` meets its contract: what is left of the places of types gives what all of them give.
 use mathlib.Core.Path.{_≡_}
 use borrow.Author.Needs.{needs}
-use Rattle.catalog.specs.Finding.{find, isTyped, typeNamed}
-use Rattle.catalog.specs.Catalog.{typeDef, catalogOf}
-use Rattle.fields.specs.Places.{valueAt}
-use Rattle.fields.specs.Format.{many}
-use Rattle.lookup.proofs.Types.{types-start, type-here, type-later, type-none}
+use Rattle.catalog.specs.Finding.{find}
+use Rattle.catalog.specs.Catalog.{typeDef}
+use Rattle.catalog.specs.Alike.{placesFrom}
+use Rattle.nodes.specs.Placed.{isNamedAt}
+use Rattle.nodes.proofs.Finds.{search-none, search-here, search-later}
+use Rattle.lookup.specs.Placed.{typePlace}
+use Rattle.lookup.proofs.Types.{types-start}
 use Rattle.lookup.proofs.member.find_type.Statement.{statement}
 use Rattle.lookup.proofs.member.find_type.Tie as tie
 
 abbrev Inv-loop : tie.InvT-loop
-Inv-loop s name at₀ k₀ at k = find (isTyped name) (valueAt (many typeDef k) s at) ≡ typeNamed (catalogOf s) name
+Inv-loop s name at₀ k₀ at k = find (isNamedAt s name) (placesFrom typeDef k s at) ≡ typePlace s name
 
 abbrev μ-loop : tie.MeasureT-loop
 μ-loop s name at₀ k₀ at k = k
@@ -28,7 +30,8 @@ is-named-requires : tie.Need-is-named-requires Inv-loop μ-loop
 is-named-requires c κs = search needs
 
 returns : tie.Need-returns Inv-loop μ-loop
-returns c = type-here _ _ _ _ _ (c .before .before .before .loop .inv) _ (c .before .before .loop-test .taken) (c .before .is-named .ensures) (c .if1 .taken)
+unfolding isNamedAt
+returns c = search-here typeDef _ _ _ _ _ (c .before .before .before .loop .inv) _ (c .before .before .loop-test .taken) (c .before .is-named .ensures) (c .if1 .taken)
 
 type-past-requires : tie.Need-type-past-requires Inv-loop μ-loop
 type-past-requires c κs = search needs
@@ -40,10 +43,11 @@ loop-less : tie.Need-loop-less Inv-loop μ-loop
 loop-less c = search needs
 
 loop-again : tie.Need-loop-again Inv-loop μ-loop
-loop-again c = type-later _ _ _ _ _ (c .before .before .before .before .loop .inv) _ _ (c .before .before .before .loop-test .taken) (c .before .before .is-named .ensures) (c .before .if1 .left) (c .type-past .ensures)
+unfolding isNamedAt
+loop-again c = search-later typeDef _ _ _ _ _ (c .before .before .before .before .loop .inv) _ (c .before .before .before .loop-test .taken) (c .before .before .is-named .ensures) _ (c .before .if1 .left) (c .type-past .ensures)
 
 returns-2 : tie.Need-returns-2 Inv-loop μ-loop
-returns-2 c = type-none _ _ _ _ _ (c .before .loop .inv) (c .loop-test .left)
+returns-2 c = search-none typeDef _ _ _ _ _ (c .before .loop .inv) (c .loop-test .left)
 
 pub find-type-spec : {M : Type 1} → statement M
 find-type-spec =

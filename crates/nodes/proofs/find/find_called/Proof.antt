@@ -1,18 +1,16 @@
--- The loop keeps that the search of the nodes left gives what the search of all gives; the laws in Finds hold for any test.
-use mathlib.Core.Path.{_≡_, refl, sym, _∙_}
-use denote.Ref.{now}
+-- The loop keeps that the search of the places left gives what the search of all gives; the laws in Finds hold for any test.
+use mathlib.Core.Path.{_≡_, refl}
 use borrow.Author.Needs.{needs}
-use Rattle.fields.specs.Places.{valueAt}
-use Rattle.fields.specs.Format.{many}
 use Rattle.catalog.specs.Finding.{find}
+use Rattle.catalog.specs.Alike.{placesFrom}
 use Rattle.catalog.specs.Catalog.{node}
-use Rattle.nodes.specs.Lookup.{isCalled}
-use Rattle.nodes.proofs.Finds.{find-none, find-here, find-later, called}
+use Rattle.nodes.specs.Placed.{isCalledAt}
+use Rattle.nodes.proofs.Finds.{search-none, search-here, search-later}
 use Rattle.nodes.proofs.find.find_called.Statement.{statement}
 use Rattle.nodes.proofs.find.find_called.Tie as tie
 
 abbrev Inv-loop : tie.InvT-loop
-Inv-loop s from n name at₀ k₀ at k = find (isCalled name) (valueAt (many node k) s at) ≡ find (isCalled name) (valueAt (many node n) s from)
+Inv-loop s from n name at₀ k₀ at k = find (isCalledAt s name) (placesFrom node k s at) ≡ find (isCalledAt s name) (placesFrom node n s from)
 
 abbrev μ-loop : tie.MeasureT-loop
 μ-loop s from n name at₀ k₀ at k = k
@@ -24,7 +22,8 @@ is-called-requires : tie.Need-is-called-requires Inv-loop μ-loop
 is-called-requires c κs = search needs
 
 returns : tie.Need-returns Inv-loop μ-loop
-returns c = let a = c .before .before .before .before .before .before .args in find-here (isCalled (now (a .name))) (now (a .s)) (c .before .before .before .loop .at) (c .before .before .before .loop .k) _ (c .before .before .loop-test .taken) (c .before .is-called .ensures ∙ called (now (a .s)) (c .before .before .before .loop .at) (now (a .name))) (c .if1 .taken) ∙ c .before .before .before .loop .inv
+unfolding isCalledAt
+returns c = search-here node _ _ _ _ _ (c .before .before .before .loop .inv) _ (c .before .before .loop-test .taken) (c .before .is-called .ensures) (c .if1 .taken)
 
 node-past-requires : tie.Need-node-past-requires Inv-loop μ-loop
 node-past-requires c κs = search needs
@@ -36,10 +35,11 @@ loop-less : tie.Need-loop-less Inv-loop μ-loop
 loop-less c = search needs
 
 loop-again : tie.Need-loop-again Inv-loop μ-loop
-loop-again c = let a = c .before .before .before .before .before .before .before .args in sym (find-later (isCalled (now (a .name))) (now (a .s)) (c .before .before .before .before .loop .at) (c .before .before .before .before .loop .k) _ (c .before .before .before .loop-test .taken) (c .before .before .is-called .ensures ∙ called (now (a .s)) (c .before .before .before .before .loop .at) (now (a .name))) _ (c .before .if1 .left) (c .node-past .ensures)) ∙ c .before .before .before .before .loop .inv
+unfolding isCalledAt
+loop-again c = search-later node _ _ _ _ _ (c .before .before .before .before .loop .inv) _ (c .before .before .before .loop-test .taken) (c .before .before .is-called .ensures) _ (c .before .if1 .left) (c .node-past .ensures)
 
 returns-2 : tie.Need-returns-2 Inv-loop μ-loop
-returns-2 c = let a = c .before .before .before .before .args in find-none (isCalled (now (a .name))) (now (a .s)) (c .before .loop .at) (c .before .loop .k) (c .loop-test .left) ∙ c .before .loop .inv
+returns-2 c = search-none node _ _ _ _ _ (c .before .loop .inv) (c .loop-test .left)
 
 pub find-called-spec : {M : Type 1} → statement M
 find-called-spec =

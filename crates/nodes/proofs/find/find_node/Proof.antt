@@ -1,6 +1,6 @@
 -- What the exact search found is the answer, and else what the other one found, by the laws in Finds on exact spelling.
-use denote.Ref.{now}
 use borrow.Author.Needs.{needs}
+use Rattle.nodes.specs.Placed.{nodePlace}
 use Rattle.nodes.proofs.Finds.{exact-found, exact-missing}
 use Rattle.nodes.proofs.find.find_node.Statement.{statement}
 use Rattle.nodes.proofs.find.find_node.Tie as tie
@@ -18,10 +18,12 @@ find-called-requires : tie.Need-find-called-requires
 find-called-requires c κs = search needs
 
 returns : tie.Need-returns
-returns c = exact-found (now (c .before .before .before .before .before .before .args .s)) (now (c .before .before .before .before .before .before .args .name)) _ _ (c .before .before .before .find-named .ensures) _ (c .before .exact .given .1)
+unfolding nodePlace
+returns c = exact-found _ _ _ (c .before .before .before .find-named .ensures) _ (c .before .exact .given .1)
 
 returns-2 : tie.Need-returns-2
-returns-2 c = exact-missing (now (c .before .before .before .before .before .before .args .s)) (now (c .before .before .before .before .before .before .args .name)) _ _ (c .before .before .before .find-named .ensures) _ (c .before .enum-told .given .1) (c .find-called .ensures)
+unfolding nodePlace
+returns-2 c = exact-missing _ _ _ (c .before .before .before .find-named .ensures) _ (c .before .enum-told .given .1) (c .find-called .ensures)
 
 pub find-node-spec : {M : Type 1} → statement M
 find-node-spec =

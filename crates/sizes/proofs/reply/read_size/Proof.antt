@@ -1,6 +1,8 @@
 -- `read_size` meets its contract: the array of a range is the front of the name.
-use mathlib.Core.Path.{sym, _∙_}
+use mathlib.Core.Path.{sym, ap, _∙_}
 use borrow.Author.Needs.{needs}
+use Rattle.nodes.specs.Reading.{foundIn}
+use Rattle.lookup.proofs.Placed.{looked-is}
 use Rattle.sizes.proofs.Named.{range-length, range-short, read-long, read-plain, read-range}
 use Rattle.sizes.proofs.reply.read_size.Statement.{statement}
 use Rattle.sizes.proofs.reply.read_size.Tie as tie
@@ -36,7 +38,7 @@ returns-2 : tie.Need-returns-2
 returns-2 c = read-range _ _ (c .before .before .before .before .before .before .if1 .left) _ _ _ (sym (c .before .before .before .before .before .range .ensures) ∙ c .before .before .before .g .given .1) (c .range-size .ensures)
 
 returns-3 : tie.Need-returns-3
-returns-3 c = read-plain _ _ (c .before .before .before .before .before .before .if1 .left) _ _ _ (sym (c .before .before .before .before .before .range .ensures) ∙ c .before .before .before .enum-told .given .1) (c .before .before .request-size .ensures .0) (c .before .info .ensures) (c .reply-size .ensures)
+returns-3 c = read-plain _ _ (c .before .before .before .before .before .before .if1 .left) _ _ _ (sym (c .before .before .before .before .before .range .ensures) ∙ c .before .before .before .enum-told .given .1) (c .before .before .request-size .ensures .0) (ap (foundIn _) (c .before .info .ensures) ∙ looked-is _ _) (c .reply-size .ensures)
 
 pub read-size-spec : {M : Type 1} → statement M
 read-size-spec =

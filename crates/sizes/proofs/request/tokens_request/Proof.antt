@@ -1,7 +1,9 @@
 -- `tokens_request` meets its contract: the first token is the front of the name, and it is short enough to be looked up.
-use mathlib.Core.Path.{sym, _∙_}
+use mathlib.Core.Path.{sym, ap, _∙_}
 use native.Mathlib.Omega.{arith}
 use borrow.Author.Needs.{needs}
+use Rattle.nodes.specs.Reading.{foundIn}
+use Rattle.lookup.proofs.Placed.{looked-is}
 use Rattle.sizes.proofs.Requests.{base-within, base-length, base-short, cost-few, request-unreadable, request-tokens}
 use Rattle.sizes.proofs.request.tokens_request.Statement.{statement}
 use Rattle.sizes.proofs.request.tokens_request.Tie as tie
@@ -43,7 +45,7 @@ returns : tie.Need-returns
 returns c = request-unreadable _ _ (c .before .before .before .before .before .pre) _ (sym (c .before .before .later-size .ensures .0) ∙ c .enum-told .given .1)
 
 returns-2 : tie.Need-returns-2
-returns-2 c = request-tokens _ _ (c .before .before .before .before .before .before .before .before .before .before .before .pre) _ _ _ _ _ (sym (c .before .before .before .before .before .before .before .before .later-size .ensures .0) ∙ c .before .before .before .before .before .before .later .given .1) (c .before .before .before .info .ensures) (c .before .before .base-size .ensures) (c .program-size .ensures) (cost-few _ _ _ (c .before .before .before .before .before .before .later .given .1) (c .before .before .before .before .before .before .before .before .later-size .ensures .1))
+returns-2 c = request-tokens _ _ (c .before .before .before .before .before .before .before .before .before .before .before .pre) _ _ _ _ _ (sym (c .before .before .before .before .before .before .before .before .later-size .ensures .0) ∙ c .before .before .before .before .before .before .later .given .1) (ap (foundIn _) (c .before .before .before .info .ensures) ∙ looked-is _ _) (c .before .before .base-size .ensures) (c .program-size .ensures) (cost-few _ _ _ (c .before .before .before .before .before .before .later .given .1) (c .before .before .before .before .before .before .before .before .later-size .ensures .1))
 
 pub tokens-request-spec : {M : Type 1} → statement M
 tokens-request-spec =
