@@ -116,7 +116,7 @@ module _ (s : List ℕ) where
   either-is none y = refl
   either-is (some p) y = refl
 
-  node-name : (at : ℕ) → nameAt s at ≡ valueAt node s at .name
+  pub node-name : (at : ℕ) → nameAt s at ≡ valueAt node s at .name
   unfolding node nameAt
   node-name at =
       sym (ap (λ (x : Node). x .name) (mapped-value _ _ nodeFields s at) ∙ ap (λ x. x .0) (then-value name (name then fromKind) s at lawful-name))

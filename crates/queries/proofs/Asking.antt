@@ -24,10 +24,12 @@ use Rattle.catalog.specs.Catalog.{Node, fieldsVerdict}
 use Rattle.catalog.specs.Alike.{alikeVerdict}
 use Rattle.catalog.specs.Nesting.{nestingVerdict}
 use Rattle.catalog.specs.Check.{catalogVerdict}
-use Rattle.fields.specs.Places.{valueAt}
 use Rattle.fields.proofs.Lawful.{first-fine}
-use Rattle.catalog.specs.Catalog.{node, catalogOf}
-use Rattle.nodes.specs.Reading.{nodeIn, foundIn}
+use Rattle.catalog.specs.Catalog.{catalogOf}
+use Rattle.nodes.specs.Reading.{foundIn, nodeRead}
+use Rattle.nodes.specs.Placed.{foundTold}
+use Rattle.nodes.proofs.Values.{read-node}
+use Rattle.lookup.specs.Placed.{infoPlace, lookedPlace}
 use Rattle.nodes.specs.declared.Node.{Node as Read}
 use Rattle.nodes.specs.declared.Found.{Found as Place}
 use Rattle.nodes.specs.declared.Found.the-variants.{At, Nowhere}
@@ -42,7 +44,7 @@ use Rattle.structs.specs.Structs.{structTold}
 use Rattle.structs.proofs.Accepted.{struct-is}
 use Rattle.names.specs.Pieces.{andThen}
 use Rattle.queries.specs.declared.WholeSize.the-variants.{Is, Unknown, Refused as WholeRefused}
-use Rattle.queries.specs.Queries.{wholeOf, measuredOf, lengthVerdict, nameVerdict, queryVerdict, found, answerOf, shownAs, lookedIn, blankNode}
+use Rattle.queries.specs.Queries.{wholeOf, measuredOf, lengthVerdict, nameVerdict, queryVerdict, found, answerOf, shownAs, lookedIn, blankNode, shownAt, lookedAt}
 use Rattle.queries.specs.declared.Looked.{Looked}
 use Rattle.queries.specs.declared.Measured.the-variants.{Bytes, Refused as SizeRefused}
 use Rattle.queries.proofs.Counts.{size-is}
@@ -126,37 +128,43 @@ name-short c n q p e = go (ltb longestName (length n)) refl (name-fine c n q p e
     go false k f = ltb-false longestName (length n) k
 
 -- ---- the answer of a lookup
-abbrev Empty : Looked → Type 0
-Empty r = (r .outcome ≡ Found → ⊥) → r .node ≡ blankNode
+pub shown-missing : (s : List ℕ) (f : Place) (n : Read) → f ≡ Nowhere → n ≡ blankNode → record { outcome = NotThere; node = n } ≡ shownAt s f
+unfolding shownAt
+shown-missing s f n e b = (λ j. record { outcome = NotThere; node = b j }) ∙ sym (ap (shownAt s) e)
 
-pub shown-missing : (s : List ℕ) (f : Place) (n : Read) → f ≡ Nowhere → n ≡ blankNode
-    → (lookedIn s (record { outcome = NotThere; node = n }) ≡ answerOf fine (foundIn s f)) × Empty (record { outcome = NotThere; node = n })
-unfolding lookedIn shownAs answerOf foundIn
-shown-missing s f n e b = (sym (ap (λ x. answerOf fine (foundIn s x)) e), λ _. b)
+pub shown-found : (s : List ℕ) (f : Place) (n : Read) (p : ℕ) → f ≡ At p → n ≡ nodeRead s p → record { outcome = Found; node = n } ≡ shownAt s f
+unfolding shownAt
+shown-found s f n p e v = (λ j. record { outcome = Found; node = v j }) ∙ sym (ap (shownAt s) e)
 
-pub shown-found : (s : List ℕ) (f : Place) (n : Read) (p : ℕ) → f ≡ At p → nodeIn s n ≡ valueAt node s p
-    → (lookedIn s (record { outcome = Found; node = n }) ≡ answerOf fine (foundIn s f)) × Empty (record { outcome = Found; node = n })
-unfolding lookedIn shownAs answerOf foundIn
-shown-found s f n p e v = (ap found v ∙ sym (ap (λ x. answerOf fine (foundIn s x)) e), λ q. absurd (q refl))
+-- what is told stands for the answer
+looked-answer : (v : Verdict) (s : List ℕ) (o : Option ℕ) → lookedIn s (lookedAt v s o) ≡ answerOf v (foundIn s (foundTold o))
+unfolding lookedIn shownAs lookedAt shownAt answerOf foundIn foundTold
+looked-answer fine s none = refl
+looked-answer fine s (some p) = ap found (read-node s p (nodeRead s p) refl)
+looked-answer (bad r) s o = refl
 
-module _ (c n : List ℕ) (o : Option Node) (q : ℕ) where
-  pub asked-refused : (r : Refusal) (b : Read) → told (queryVerdict c n) q ≡ Refused r → b ≡ blankNode
-      → (lookedIn c (record { outcome = Refuses r; node = b }) ≡ answerOf (queryVerdict c n) o) × Empty (record { outcome = Refuses r; node = b })
-  unfolding lookedIn shownAs answerOf
-  asked-refused r b e k = (sym (ap (λ v. answerOf v o) (told-refused (queryVerdict c n) q r e)), λ _. k)
+module _ (c n : List ℕ) (o : Option ℕ) (m : Option Node) (i : foundIn c (foundTold o) ≡ m) (q : ℕ) where
+  -- both promises of a lookup
+  abbrev Asked : Looked → Type 0
+  Asked r = (lookedIn c r ≡ answerOf (queryVerdict c n) m) × (r ≡ lookedAt (queryVerdict c n) c o)
 
-  pub asked-fine : (p : ℕ) (r : Looked) → told (queryVerdict c n) q ≡ Good p → (lookedIn c r ≡ answerOf fine o) × Empty r → (lookedIn c r ≡ answerOf (queryVerdict c n) o) × Empty r
-  asked-fine p r e a = (a .0 ∙ sym (ap (λ v. answerOf v o) (told-fine (queryVerdict c n) q p e)), a .1)
+  asked : (r : Looked) → r ≡ lookedAt (queryVerdict c n) c o → Asked r
+  asked r e = (ap (lookedIn c) e ∙ looked-answer (queryVerdict c n) c o ∙ ap (answerOf (queryVerdict c n)) i, e)
 
--- what was found by a name that is not too long
-pub looked-up : (c n : List ℕ) (f : Place) (r : Looked) → length n ≤ longestName → foundIn c f ≡ lookedUp (catalogOf c) n
-    → (lookedIn c r ≡ answerOf fine (foundIn c f)) × Empty r → (lookedIn c r ≡ answerOf fine (infoOf (catalogOf c) n)) × Empty r
-unfolding lookedUp
-looked-up c n f r h e a = (a .0 ∙ ap (answerOf fine) (e ∙ rw (le-ltb longestName (length n) h)), a .1)
+  pub asked-refused : (r : Refusal) (b : Read) → told (queryVerdict c n) q ≡ Refused r → b ≡ blankNode → Asked (record { outcome = Refuses r; node = b })
+  unfolding lookedAt
+  asked-refused r b e k =
+      asked (record { outcome = Refuses r; node = b })
+      ((λ j. record { outcome = Refuses r; node = k j }) ∙ sym (ap (λ v. lookedAt v c o) (told-refused (queryVerdict c n) q r e)))
 
--- the same by an equation between what was found
-pub same-found : (c : List ℕ) (o : Option Node) (f : Place) (r : Looked) → foundIn c f ≡ o → (lookedIn c r ≡ answerOf fine (foundIn c f)) × Empty r → (lookedIn c r ≡ answerOf fine o) × Empty r
-same-found c o f r e a = (a .0 ∙ ap (answerOf fine) e, a .1)
+  pub asked-fine : (p : ℕ) (f : Place) (r : Looked) → told (queryVerdict c n) q ≡ Good p → f ≡ foundTold o → r ≡ shownAt c f → Asked r
+  unfolding lookedAt
+  asked-fine p f r e g h = asked r (h ∙ ap (shownAt c) g ∙ sym (ap (λ v. lookedAt v c o) (told-fine (queryVerdict c n) q p e)))
+
+-- a name that is not too long is looked up
+pub looked-up : (c n : List ℕ) (q p : ℕ) (f : Place) → told (queryVerdict c n) q ≡ Good p → f ≡ foundTold (lookedPlace c n) → f ≡ foundTold (infoPlace c n)
+unfolding lookedPlace
+looked-up c n q p f e g = g ∙ rw (le-ltb longestName (length n) (name-short c n q p e))
 
 -- ---- the size of a read
 pub size-refused : (c n : List ℕ) (z : Size) (q : ℕ) (r : Refusal) → told (queryVerdict c n) q ≡ Refused r → SizeRefused r ≡ measuredOf (queryVerdict c n) z

@@ -15,12 +15,15 @@ use Rattle.fields.specs.declared.Refusal.the-variants.{OverLimit}
 use Rattle.names.specs.Listing.{longestName}
 use Rattle.catalog.specs.Catalog.{Node, Catalog, catalogOf}
 use Rattle.catalog.specs.Check.{catalogVerdict}
-use Rattle.nodes.specs.Reading.{nodeIn}
+use Rattle.nodes.specs.Reading.{nodeIn, nodeRead}
+use Rattle.nodes.specs.Placed.{foundTold}
 use Rattle.sizes.specs.Sizes.{Size}
 use Rattle.sizes.specs.Told.{largestCount, sizeTold}
 use Rattle.catalog.specs.declared.Kind.the-variants.{Atomic}
 use Rattle.nodes.specs.declared.Maybe.the-variants.{Missing}
 use Rattle.nodes.specs.declared.Node.{Node as Read}
+use Rattle.nodes.specs.declared.Found.{Found as Place}
+use Rattle.nodes.specs.declared.Found.the-variants.{At, Nowhere}
 use Rattle.queries.specs.declared.Looked.{Looked}
 use Rattle.queries.specs.declared.Outcome.{Outcome}
 use Rattle.queries.specs.declared.Outcome.the-variants.{Found, NotThere, Refused}
@@ -66,6 +69,16 @@ lookedIn s r = shownAs s (r .outcome) (r .node)
 -- no node: zeros
 unfoldable pub blankNode : Read
 blankNode = record { name = record { start = 0; end = 0 }; «type_name» = record { start = 0; end = 0 }; kind = Atomic; dims = 0 ∷ 0 ∷ 0 ∷ []; count = 0; id = Missing; size = Missing }
+
+-- the node at the place found, as the code tells it
+unfoldable pub shownAt : List ℕ → Place → Looked
+shownAt s (At p) = record { outcome = Found; node = nodeRead s p }
+shownAt s Nowhere = record { outcome = NotThere; node = blankNode }
+
+-- what a lookup tells, with the places of its texts in the file `s`, its inputs' verdict and the node's place known
+unfoldable pub lookedAt : Verdict → List ℕ → Option ℕ → Looked
+lookedAt fine s o = shownAt s (foundTold o)
+lookedAt (bad r) s o = record { outcome = Refused r; node = blankNode }
 
 -- 01, "Request size", "Reply size": what a question for a read's size answers
 unfoldable pub measuredOf : Verdict → Size → Measured

@@ -20,16 +20,15 @@ use types::check_nesting;
 ghost use mathlib.Core.Path.{_≡_};
 ghost use lib.ListN.{length};
 ghost use Rattle.fields.specs.Places.{told};
-ghost use Rattle.fields.specs.Format.{fine};
 ghost use Rattle.catalog.specs.Catalog.{catalogOf};
 ghost use Rattle.catalog.specs.Check.{catalogVerdict};
 ghost use Rattle.nodes.specs.Lookup.{tagOf};
-ghost use Rattle.nodes.specs.Reading.{foundIn};
+ghost use Rattle.nodes.specs.Placed.{tagPlace};
 ghost use Rattle.names.specs.Pieces.{andThen};
 ghost use Rattle.lookup.specs.Info.{infoOf, structSize};
+ghost use Rattle.lookup.specs.Placed.{infoPlace};
 ghost use Rattle.sizes.specs.Sizes.{readSize};
-ghost use Rattle.queries.specs.declared.Outcome.{Outcome};
-ghost use Rattle.queries.specs.Queries.{blankNode, nameVerdict, queryVerdict, answerOf, lookedIn, measuredOf, wholeOf};
+ghost use Rattle.queries.specs.Queries.{blankNode, nameVerdict, queryVerdict, answerOf, lookedIn, shownAt, lookedAt, measuredOf, wholeOf};
 
 // Whether a node was found, or why the question was refused.
 pub enum Outcome {
@@ -118,8 +117,7 @@ fn check_query(catalog: &[u8], name: &[u8]) -> Checked
 
 // What was found, with its node by value.
 fn shown(s: &[u8], found: Found) -> Looked
-    ensures answer { λ r. ⌜ lookedIn (now (s .entry)) r ≡ answerOf fine (foundIn (now (s .entry)) found) ⌝ }
-    ensures empty { λ r. ⌜ ((r .outcome ≡ Outcome.Found → ⊥) → r .node ≡ blankNode) ⌝ }
+    ensures { λ r. ⌜ r ≡ shownAt (now (s .entry)) found ⌝ }
 {
     match found {
         Found::Nowhere => Looked {
@@ -136,7 +134,7 @@ fn shown(s: &[u8], found: Found) -> Looked
 // The tag of a name.
 pub fn tag(catalog: &[u8], name: &[u8]) -> Looked
     ensures answer { λ r. ⌜ lookedIn (now (catalog .entry)) r ≡ answerOf (queryVerdict (now (catalog .entry)) (now (name .entry))) (tagOf (catalogOf (now (catalog .entry))) (now (name .entry))) ⌝ }
-    ensures empty { λ r. ⌜ ((r .outcome ≡ Outcome.Found → ⊥) → r .node ≡ blankNode) ⌝ }
+    ensures told { λ r. ⌜ r ≡ lookedAt (queryVerdict (now (catalog .entry)) (now (name .entry))) (now (catalog .entry)) (tagPlace (now (catalog .entry)) (now (name .entry))) ⌝ }
 {
     let v = check_query(catalog, name);
     match v {
@@ -151,7 +149,7 @@ pub fn tag(catalog: &[u8], name: &[u8]) -> Looked
 // The node of a full name: a tag, or a member that it leads to.
 pub fn info(catalog: &[u8], name: &[u8]) -> Looked
     ensures answer { λ r. ⌜ lookedIn (now (catalog .entry)) r ≡ answerOf (queryVerdict (now (catalog .entry)) (now (name .entry))) (infoOf (catalogOf (now (catalog .entry))) (now (name .entry))) ⌝ }
-    ensures empty { λ r. ⌜ ((r .outcome ≡ Outcome.Found → ⊥) → r .node ≡ blankNode) ⌝ }
+    ensures told { λ r. ⌜ r ≡ lookedAt (queryVerdict (now (catalog .entry)) (now (name .entry))) (now (catalog .entry)) (infoPlace (now (catalog .entry)) (now (name .entry))) ⌝ }
 {
     let v = check_query(catalog, name);
     match v {

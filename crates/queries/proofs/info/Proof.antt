@@ -1,9 +1,8 @@
 -- Refused as its inputs are, else what the walk down the name found.
-use mathlib.Core.Path.{sym, ap, _∙_}
+use mathlib.Core.Path.{sym, _∙_}
 use borrow.Author.Needs.{needs}
-use Rattle.nodes.specs.Reading.{foundIn}
-use Rattle.lookup.proofs.Placed.{looked-is}
-use Rattle.queries.proofs.Asking.{asked-refused, asked-fine, name-short, looked-up}
+use Rattle.lookup.proofs.Placed.{info-is}
+use Rattle.queries.proofs.Asking.{asked-refused, asked-fine, looked-up}
 use Rattle.queries.proofs.info.Statement.{statement}
 use Rattle.queries.proofs.info.Tie as tie
 
@@ -26,10 +25,10 @@ shown-requires : tie.Need-shown-requires
 shown-requires c κs = search needs
 
 returns : tie.Need-returns
-returns c = asked-refused _ _ _ _ _ _ (sym (c .before .before .before .before .check-query .ensures) ∙ c .before .before .v .given .1) (c .blank .ensures)
+returns c = asked-refused _ _ _ _ (info-is _ _) _ _ _ (sym (c .before .before .before .before .check-query .ensures) ∙ c .before .before .v .given .1) (c .blank .ensures)
 
 returns-2 : tie.Need-returns-2
-returns-2 c = asked-fine _ _ _ _ _ _ (sym (c .before .before .before .before .check-query .ensures) ∙ c .before .before .enum-told .given .1) (looked-up _ _ _ _ (name-short _ _ _ _ (sym (c .before .before .before .before .check-query .ensures) ∙ c .before .before .enum-told .given .1)) (ap (foundIn _) (c .before .info .ensures) ∙ looked-is _ _) (c .shown .ensures))
+returns-2 c = asked-fine _ _ _ _ (info-is _ _) _ _ _ _ (sym (c .before .before .before .before .check-query .ensures) ∙ c .before .before .enum-told .given .1) (looked-up _ _ _ _ _ (sym (c .before .before .before .before .check-query .ensures) ∙ c .before .before .enum-told .given .1) (c .before .info .ensures)) (c .shown .ensures)
 
 pub info-spec : {M : Type 1} → statement M
 info-spec =

@@ -1,6 +1,5 @@
 -- A place is shown as the node that stands there.
 use borrow.Author.Needs.{needs}
-use Rattle.nodes.proofs.Values.{read-node}
 use Rattle.queries.proofs.Asking.{shown-missing, shown-found}
 use Rattle.queries.proofs.shown.Statement.{statement}
 use Rattle.queries.proofs.shown.Tie as tie
@@ -21,7 +20,7 @@ returns : tie.Need-returns
 returns c = shown-missing _ _ _ (c .before .enum-told .given .1) (c .blank .ensures)
 
 returns-2 : tie.Need-returns-2
-returns-2 c = shown-found _ _ _ _ (c .before .before .found .given .1) (read-node _ _ _ (c .node-at .ensures .0))
+returns-2 c = shown-found _ _ _ _ (c .before .before .found .given .1) (c .node-at .ensures .0)
 
 pub shown-spec : {M : Type 1} → statement M
 shown-spec =

@@ -1,9 +1,8 @@
 -- Refused as its inputs are, else what the search among the tags found.
-use mathlib.Core.Path.{sym, ap, _∙_}
+use mathlib.Core.Path.{sym, _∙_}
 use borrow.Author.Needs.{needs}
-use Rattle.nodes.specs.Reading.{foundIn}
 use Rattle.nodes.proofs.Finds.{tag-is}
-use Rattle.queries.proofs.Asking.{asked-refused, asked-fine, same-found}
+use Rattle.queries.proofs.Asking.{asked-refused, asked-fine}
 use Rattle.queries.proofs.tag.Statement.{statement}
 use Rattle.queries.proofs.tag.Tie as tie
 
@@ -26,10 +25,10 @@ shown-requires : tie.Need-shown-requires
 shown-requires c κs = search needs
 
 returns : tie.Need-returns
-returns c = asked-refused _ _ _ _ _ _ (sym (c .before .before .before .before .check-query .ensures) ∙ c .before .before .v .given .1) (c .blank .ensures)
+returns c = asked-refused _ _ _ _ (tag-is _ _) _ _ _ (sym (c .before .before .before .before .check-query .ensures) ∙ c .before .before .v .given .1) (c .blank .ensures)
 
 returns-2 : tie.Need-returns-2
-returns-2 c = asked-fine _ _ _ _ _ _ (sym (c .before .before .before .before .check-query .ensures) ∙ c .before .before .enum-told .given .1) (same-found _ _ _ _ (ap (foundIn _) (c .before .find-tag .ensures) ∙ tag-is _ _) (c .shown .ensures))
+returns-2 c = asked-fine _ _ _ _ (tag-is _ _) _ _ _ _ (sym (c .before .before .before .before .check-query .ensures) ∙ c .before .before .enum-told .given .1) (c .before .find-tag .ensures) (c .shown .ensures)
 
 pub tag-spec : {M : Type 1} → statement M
 tag-spec =
