@@ -21,16 +21,16 @@ use Rattle.names.proofs.Walking.{FirstTells, first-tells}
 use Rattle.catalog.specs.Catalog.{Node, Catalog}
 use Rattle.lookup.specs.Info.{infoOf, lookedUp}
 use Rattle.sizes.specs.Sizes.{paddedTo, padded, idSize, idOf, programSize, keySizes, requestFrom, requestSize}
-use Rattle.sizes.specs.Told.{costTold, bytesIn, tokensCost, requestTold, boundedRequest}
-use Rattle.sizes.specs.declared.Cost.{Cost}
-use Rattle.sizes.specs.declared.Cost.the-variants.{Bytes, Unreadable}
+use Rattle.sizes.specs.Told.{chargeTold, bytesIn, tokensCost, requestTold, boundedRequest}
+use Rattle.sizes.specs.declared.Charge.{Charge}
+use Rattle.sizes.specs.declared.Charge.the-variants.{Bytes, Unreadable}
 
 -- ---- names that are not too long
 pub looked-up : (c : Catalog) (s : Text) → length s ≤ longestName → lookedUp c s ≡ infoOf c s
 unfolding lookedUp
 looked-up c s h = rw (le-ltb longestName (length s) h)
 
-pub cost-few : (c : Cost) (n most : ℕ) → c ≡ Bytes n → bytesIn c ≤ most → n ≤ most
+pub cost-few : (c : Charge) (n most : ℕ) → c ≡ Bytes n → bytesIn c ≤ most → n ≤ most
 unfolding bytesIn
 cost-few c n most e h = rw e at h
 
@@ -50,24 +50,24 @@ module _ (s : Text) (base : ℕ) (b : Based s base) where
     unfolding requestTold tokensOf
     request-is = ap (λ r. tokensCost c s (listed r)) (based-tells s base b .rest)
 
-    pub request-unreadable : costTold (readFrom s base) ≡ Unreadable → (Unreadable ≡ requestTold c s) × (bytesIn Unreadable ≤ 1000)
-    unfolding bytesIn costTold before listed tokensCost
+    pub request-unreadable : chargeTold (readFrom s base) ≡ Unreadable → (Unreadable ≡ requestTold c s) × (bytesIn Unreadable ≤ 1000)
+    unfolding bytesIn chargeTold before listed tokensCost
     request-unreadable e = (sym (request-is ∙ go (readFrom s base) e), omega arith)
       where
-        go : (r : Reading) → costTold r ≡ Unreadable → tokensCost c s (listed (before (record { text = take base s; key = member (take base s) }) r)) ≡ Unreadable
+        go : (r : Reading) → chargeTold r ≡ Unreadable → tokensCost c s (listed (before (record { text = take base s; key = member (take base s) }) r)) ≡ Unreadable
         go (tokens ts) e = let z : _≡_ {A = ℕ} 0 1 = cc in absurd (omega arith)
         go (stops i) e = refl
 
-    module _ (n id program : ℕ) (o : Option Node) (e : costTold (readFrom s base) ≡ Bytes n) (f : o ≡ lookedUp c (take base s)) (h : (id ≡ idSize (idOf o)) × (id ≤ 6))
+    module _ (n id program : ℕ) (o : Option Node) (e : chargeTold (readFrom s base) ≡ Bytes n) (f : o ≡ lookedUp c (take base s)) (h : (id ≡ idSize (idOf o)) × (id ≤ 6))
         (k : (program ≡ programSize (take base s)) × (program ≤ 140)) where
       head-is : 8 + id + program ≡ 8 + idSize (idOf (infoOf c (take base s))) + programSize (take base s)
       head-is = ap₂ (λ x y. 8 + x + y) (h .0 ∙ ap (λ x. idSize (idOf x)) (f ∙ looked-up c (take base s) base-short)) (k .0)
 
       pub request-tokens : n ≤ 4 * longestName → (Bytes (8 + id + program + n) ≡ requestTold c s) × (bytesIn (Bytes (8 + id + program + n)) ≤ 1000)
-      unfolding bytesIn costTold before listed tokensCost requestFrom
+      unfolding bytesIn chargeTold before listed tokensCost requestFrom
       request-tokens l = let i = h .1 in let p = k .1 in (sym (request-is ∙ go (readFrom s base) e), omega arith)
         where
-          go : (r : Reading) → costTold r ≡ Bytes n → tokensCost c s (listed (before (record { text = take base s; key = member (take base s) }) r)) ≡ Bytes (8 + id + program + n)
+          go : (r : Reading) → chargeTold r ≡ Bytes n → tokensCost c s (listed (before (record { text = take base s; key = member (take base s) }) r)) ≡ Bytes (8 + id + program + n)
           go (tokens ts) e = let z : keySizes ts ≡ n = cc in sym (ap₂ (λ x y. Bytes (x + y)) head-is (sym z))
           go (stops i) e = let z : _≡_ {A = ℕ} 0 1 = cc in absurd (omega arith)
 

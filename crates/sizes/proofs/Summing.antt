@@ -25,9 +25,9 @@ use Rattle.names.proofs.Tokens.{Form, dot, indexes, form-of, later-long}
 use Rattle.names.proofs.Piecewise.{key-indexes}
 use Rattle.names.proofs.Walking.{StepRead, StepTells, step-tells, read-end}
 use Rattle.sizes.specs.Sizes.{paddedTo, padded, indexSize, indexSizes, keySize, keySizes}
-use Rattle.sizes.specs.Told.{costTold, bytesIn, pieceCost, TokenText}
-use Rattle.sizes.specs.declared.Cost.{Cost}
-use Rattle.sizes.specs.declared.Cost.the-variants.{Bytes, Unreadable}
+use Rattle.sizes.specs.Told.{chargeTold, bytesIn, pieceCost, TokenText}
+use Rattle.sizes.specs.declared.Charge.{Charge}
+use Rattle.sizes.specs.declared.Charge.the-variants.{Bytes, Unreadable}
 
 -- ---- the indexes of a bracket
 -- with `n` bytes before; nothing where the indexes do not read
@@ -144,7 +144,7 @@ module _ (p : Text) (n last : ℕ) (t : TokenText p n) (q : last ≡ length p - 
 
 -- ---- all tokens
 -- with `n` bytes before
-unfoldable pub adding : ℕ → Cost → Cost
+unfoldable pub adding : ℕ → Charge → Charge
 adding n (Bytes m) = Bytes (n + m)
 adding n Unreadable = Unreadable
 
@@ -152,22 +152,22 @@ pub record Costing (s : Text) (base at bytes : ℕ) : Type 0 where
   pub short : length s ≤ longestName
   pub within : at ≤ length s
   pub small : bytes ≤ 4 * at
-  pub left : adding bytes (costTold (readFrom s at)) ≡ costTold (readFrom s base)
+  pub left : adding bytes (chargeTold (readFrom s at)) ≡ chargeTold (readFrom s base)
 
 pub costing-start : (s : Text) (base : ℕ) → (length s ≤ longestName) × (base ≤ length s) → Costing s base base 0
 unfolding adding
-costing-start s base h = record { short = h .0; within = h .1; small = omega arith; left = go (costTold (readFrom s base)) }
+costing-start s base h = record { short = h .0; within = h .1; small = omega arith; left = go (chargeTold (readFrom s base)) }
   where
-    go : (c : Cost) → adding 0 c ≡ c
+    go : (c : Charge) → adding 0 c ≡ c
     go (Bytes m) = let z : 0 + m ≡ m = omega arith in ap Bytes z
     go Unreadable = refl
 
-cost-before : (t : Token) (r : Reading) → costTold (before t r) ≡ adding (keySize (t .key)) (costTold r)
-unfolding costTold before adding keySizes
+cost-before : (t : Token) (r : Reading) → chargeTold (before t r) ≡ adding (keySize (t .key)) (chargeTold r)
+unfolding chargeTold before adding keySizes
 cost-before t (tokens ts) = refl
 cost-before t (stops i) = refl
 
-adding-adding : (n m : ℕ) (c : Cost) → adding n (adding m c) ≡ adding (n + m) c
+adding-adding : (n m : ℕ) (c : Charge) → adding n (adding m c) ≡ adding (n + m) c
 unfolding adding
 adding-adding n m (Bytes k) = let z : n + (m + k) ≡ n + m + k = omega arith in ap Bytes z
 adding-adding n m Unreadable = refl
@@ -209,23 +209,23 @@ module _ (s : Text) (base at bytes : ℕ) (c : Costing s base at bytes) where
             within = step-read .ends;
             small = costing-small;
             left =
-                sym (ap (adding bytes) (ap costTold (step-read .rest) ∙ cost-before (record { text = part at e s; key = step-read .key }) (readFrom s e) ∙ ap (λ x. adding x (costTold (readFrom s e))) (sym k))
-                ∙ adding-adding bytes r (costTold (readFrom s e)))
+                sym (ap (adding bytes) (ap chargeTold (step-read .rest) ∙ cost-before (record { text = part at e s; key = step-read .key }) (readFrom s e) ∙ ap (λ x. adding x (chargeTold (readFrom s e))) (sym k))
+                ∙ adding-adding bytes r (chargeTold (readFrom s e)))
                 ∙ c .left;
           }
 
-  pub costing-end : stepAt s at ≡ End → (Bytes bytes ≡ costTold (readFrom s base)) × (bytesIn (Bytes bytes) ≤ 4 * longestName)
-  unfolding costTold adding keySizes bytesIn
+  pub costing-end : stepAt s at ≡ End → (Bytes bytes ≡ chargeTold (readFrom s base)) × (bytesIn (Bytes bytes) ≤ 4 * longestName)
+  unfolding chargeTold adding keySizes bytesIn
   costing-end q =
       let l : length s ≤ at = subst (StepTells s at) q (step-tells s at) in
       let z : bytes ≡ bytes + 0 = omega arith in
       let b = c .small in
       let w = c .within in
       let h = c .short in
-      (ap Bytes z ∙ ap (λ r. adding bytes (costTold r)) (sym (read-end s at l)) ∙ c .left, omega arith)
+      (ap Bytes z ∙ ap (λ r. adding bytes (chargeTold r)) (sym (read-end s at l)) ∙ c .left, omega arith)
 
-  pub costing-stops : (i : ℕ) → stepAt s at ≡ Stops i → (Unreadable ≡ costTold (readFrom s base)) × (bytesIn Unreadable ≤ 4 * longestName)
-  unfolding costTold adding bytesIn
+  pub costing-stops : (i : ℕ) → stepAt s at ≡ Stops i → (Unreadable ≡ chargeTold (readFrom s base)) × (bytesIn Unreadable ≤ 4 * longestName)
+  unfolding chargeTold adding bytesIn
   costing-stops i q =
       let l : readFrom s at ≡ stops i = subst (StepTells s at) q (step-tells s at) in
-      (ap (λ r. adding bytes (costTold r)) (sym l) ∙ c .left, omega arith)
+      (ap (λ r. adding bytes (chargeTold r)) (sym l) ∙ c .left, omega arith)

@@ -15,16 +15,16 @@ use Rattle.names.specs.Listing.{longestName}
 use Rattle.catalog.specs.Catalog.{Catalog}
 use Rattle.sizes.specs.Sizes.{Size, keySize, keySizes, requestFrom, requestSize, rangeSize, readSize}
 use Rattle.sizes.specs.declared.Size.{Size as Told}
-use Rattle.sizes.specs.declared.Cost.{Cost}
-use Rattle.sizes.specs.declared.Cost.the-variants.{Bytes, Unreadable}
+use Rattle.sizes.specs.declared.Charge.{Charge}
+use Rattle.sizes.specs.declared.Charge.the-variants.{Bytes, Unreadable}
 
 -- what the tokens behind the first one cost
-unfoldable pub costTold : Reading → Cost
-costTold (tokens ts) = Bytes (keySizes ts)
-costTold (stops i) = Unreadable
+unfoldable pub chargeTold : Reading → Charge
+chargeTold (tokens ts) = Bytes (keySizes ts)
+chargeTold (stops i) = Unreadable
 
 -- the bytes of a cost
-unfoldable pub bytesIn : Cost → ℕ
+unfoldable pub bytesIn : Charge → ℕ
 bytesIn (Bytes n) = n
 bytesIn Unreadable = 0
 
@@ -41,12 +41,12 @@ pub record TokenText (p : Text) (n : ℕ) : Type 0 where
   pub short : length p ≤ longestName
 
 -- the request of a name that has tokens
-unfoldable pub tokensCost : Catalog → Text → List Token → Cost
+unfoldable pub tokensCost : Catalog → Text → List Token → Charge
 tokensCost c s [] = Unreadable
 tokensCost c s (b ∷ later) = Bytes (requestFrom c s (b ∷ later))
 
 -- the request of a name, if it has tokens
-unfoldable pub requestTold : Catalog → Text → Cost
+unfoldable pub requestTold : Catalog → Text → Charge
 requestTold c s = tokensCost c s (tokensOf s)
 
 -- the request of a name that is not too long

@@ -9,7 +9,7 @@ pub struct Size {
 }
 
 // What the tokens of a name cost together, or that it has none.
-pub enum Cost {
+pub enum Charge {
     Bytes(u64),
     Unreadable,
 }

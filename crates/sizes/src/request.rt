@@ -1,5 +1,5 @@
 // The size of a request: the base by its instance id, then each token.
-use crate::Cost;
+use crate::Charge;
 use fields::Numeral;
 use fields::decimal::read_numeral;
 use fields::text::equal_ignoring_case;
@@ -21,7 +21,7 @@ ghost use Rattle.names.specs.Listing.{longestName};
 ghost use Rattle.catalog.specs.Catalog.{catalogOf};
 ghost use Rattle.nodes.specs.Reading.{maybeOf, foundIn};
 ghost use Rattle.sizes.specs.Sizes.{paddedTo, indexSize, indexSizes, idSize, idOf, programSize};
-ghost use Rattle.sizes.specs.Told.{costTold, bytesIn, pieceCost, TokenText, requestTold, boundedRequest};
+ghost use Rattle.sizes.specs.Told.{chargeTold, bytesIn, pieceCost, TokenText, requestTold, boundedRequest};
 
 // The bytes of an index.
 pub fn index_size(i: u64) -> u64
@@ -125,9 +125,9 @@ fn token_size(p: &[u8], n: usize) -> u64
 }
 
 // The bytes of the tokens behind the first one, which ends at base.
-fn later_size(name: &[u8], base: usize) -> Cost
+fn later_size(name: &[u8], base: usize) -> Charge
     requires { ⌜ (length (now name) ≤ longestName) × (base ≤ length (now name)) ⌝ }
-    ensures { λ r. ⌜ (r ≡ costTold (readFrom (now (name .entry)) base)) × (bytesIn r ≤ 4 * longestName) ⌝ }
+    ensures { λ r. ⌜ (r ≡ chargeTold (readFrom (now (name .entry)) base)) × (bytesIn r ≤ 4 * longestName) ⌝ }
 {
     let mut at = base;
     let mut bytes: u64 = 0;
@@ -139,27 +139,27 @@ fn later_size(name: &[u8], base: usize) -> Cost
                 at = e;
             }
             Step::End => {
-                return Cost::Bytes(bytes);
+                return Charge::Bytes(bytes);
             }
             Step::Stops(_) => {
-                return Cost::Unreadable;
+                return Charge::Unreadable;
             }
         }
     }
 }
 
 // The request of a name whose first token ends at base, or that of a name without tokens.
-fn tokens_request(s: &[u8], name: &[u8], base: usize) -> Cost
+fn tokens_request(s: &[u8], name: &[u8], base: usize) -> Charge
     requires { ⌜ Based (now name) base ⌝ }
     ensures { λ r. ⌜ (r ≡ requestTold (catalogOf (now (s .entry))) (now (name .entry))) × (bytesIn r ≤ 1000) ⌝ }
 {
     let later = later_size(name, base);
     match later {
-        Cost::Unreadable => Cost::Unreadable,
-        Cost::Bytes(n) => {
+        Charge::Unreadable => Charge::Unreadable,
+        Charge::Bytes(n) => {
             let id = base_size(s, info(s, &name[..base]));
             let program = program_size(&name[..base]);
-            Cost::Bytes(8 + id + program + n)
+            Charge::Bytes(8 + id + program + n)
         }
     }
 }
@@ -177,8 +177,8 @@ pub fn request_size(s: &[u8], name: &[u8]) -> u64
         Step::Token(base, _) => {
             let cost = tokens_request(s, name, base);
             match cost {
-                Cost::Bytes(n) => n,
-                Cost::Unreadable => plain,
+                Charge::Bytes(n) => n,
+                Charge::Unreadable => plain,
             }
         }
         Step::End => plain,

@@ -7,7 +7,7 @@ use mathlib.Core.Bool.{Bool, true, false, cond}
 use mathlib.Core.List.{List, [], _∷_, _++_, map}
 use mathlib.Core.Option.{Option, none, some}
 use native.Mathlib.Numerals.{add-one}
-use lib.ListN.{length, take, drop, getD, List·getD-eq-default}
+use lib.ListN.{length, take, drop}
 use lib.Dec.{eqb}
 use borrow.Author.Tests.{eq-eqb, ne-eqb}
 use Rattle.fields.specs.Text.{Text, same}
@@ -22,7 +22,7 @@ use Rattle.catalog.specs.Finding.{find, isStruct, isTyped, typeNamed}
 use Rattle.catalog.specs.Alike.{nameAt, typesStart}
 use Rattle.catalog.specs.Nesting.{readsWhole}
 use Rattle.catalog.proofs.Round.{lawful-name, lawful-type-size, lawful-type}
-use Rattle.nesting.specs.Graph.{mark}
+use Rattle.nesting.specs.Graph.{mark, marked}
 use Rattle.nodes.specs.Reading.{foundIn}
 use Rattle.nodes.specs.declared.Found.{Found}
 use Rattle.nodes.specs.declared.Found.the-variants.{At, Nowhere}
@@ -39,9 +39,9 @@ use Rattle.structs.specs.Structs.{markedFrom, markedSize, structTold}
 module _ (c : Catalog) (w : Text) where
   -- a mark before the others makes the numbers larger by 1
   mark-before : (m : ℕ) (ms : List ℕ) (ds : List TypeDef) (k : ℕ) → markedFrom (m ∷ ms) w ds (suc k) ≡ markedFrom ms w ds k
-  unfolding markedFrom
+  unfolding markedFrom marked
   mark-before m ms [] k = refl
-  mark-before m ms (d ∷ ds) k = ap (λ r. cond (isTyped w d) (cond (eqb (getD ms k 0) 1) (some (d .size)) none) r) (mark-before m ms ds (suc k))
+  mark-before m ms (d ∷ ds) k = ap (λ r. cond (isTyped w d) (cond (marked ms k) (some (d .size)) none) r) (mark-before m ms ds (suc k))
 
   mark-size : (d : TypeDef) → cond (eqb (wholeMark c d) 1) (some (d .size)) none ≡ wholeSize c d
   unfolding wholeMark wholeSize mark
@@ -52,7 +52,7 @@ module _ (c : Catalog) (w : Text) where
       go false = refl
 
   marks-size : (t : List ℕ) (ds : List TypeDef) → markedFrom (map (wholeMark c) ds ++ t) w ds 0 ≡ andThen (find (isTyped w) ds) (wholeSize c)
-  unfolding markedFrom find andThen
+  unfolding markedFrom find andThen marked
   marks-size t [] = refl
   marks-size t (d ∷ ds) = go (isTyped w d) (mark-before (wholeMark c d) (map (wholeMark c) ds ++ t) ds 0 ∙ marks-size t ds)
     where
@@ -78,10 +78,6 @@ type-size-at s at p n e h =
     ∙ ap (λ x. x .1 .0) (then-value name (number 2 65535 then fromAoi) s at lawful-name)
     ∙ ap (λ x. x .0) (then-value (number 2 65535) fromAoi s (placeAt name s at) lawful-type-size))
 
--- ---- a mark
-pub mark-missing : (ms : List ℕ) (k : ℕ) → length ms ≤ k → false ≡ eqb (getD ms k 0) 1
-mark-missing ms k h = rw (List·getD-eq-default ms 0 h)
-
 -- ---- the types of a file, front to back
 -- what is left of the types gives what all of them give
 pub marked-start : (ms s : List ℕ) (w : Text) (p n : ℕ) → p ≡ typesStart s → n ≡ valueAt counts s 1 .1
@@ -94,15 +90,15 @@ module _ (ms s : List ℕ) (w : Text) (at n k : ℕ) (all : Option ℕ) (i : mar
   marked-none h = ap bytesTold (sym (ap (λ x. markedFrom ms w x k) (many-value-none typeDef s at n h)) ∙ i)
 
   module _ (r : Bool) (h : 0 < n) (e : r ≡ same (nameAt s at) w) where
-    first-is : cond r (cond (eqb (getD ms k 0) 1) (some (valueAt typeDef s at .size)) none) (markedFrom ms w (valueAt (many typeDef (n - 1)) s (placeAt typeDef s at)) (suc k)) ≡ all
+    first-is : cond r (cond (marked ms k) (some (valueAt typeDef s at .size)) none) (markedFrom ms w (valueAt (many typeDef (n - 1)) s (placeAt typeDef s at)) (suc k)) ≡ all
     unfolding markedFrom
     first-is = rw (e, typed s at w) (sym (ap (λ x. markedFrom ms w x k) (many-value-more typeDef s at n lawful-type h)) ∙ i)
 
-    pub marked-here : (m : Bool) (z : ℕ) → r ≡ true → m ≡ eqb (getD ms k 0) 1 → m ≡ true → z ≡ valueAt typeDef s at .size → Known z ≡ bytesTold all
+    pub marked-here : (m : Bool) (z : ℕ) → r ≡ true → m ≡ marked ms k → m ≡ true → z ≡ valueAt typeDef s at .size → Known z ≡ bytesTold all
     unfolding bytesTold
     marked-here m z y f g q = rw q (ap bytesTold (rw (y, ← f, g) at first-is))
 
-    pub marked-not : (m : Bool) → r ≡ true → m ≡ eqb (getD ms k 0) 1 → m ≡ false → Unknown ≡ bytesTold all
+    pub marked-not : (m : Bool) → r ≡ true → m ≡ marked ms k → m ≡ false → Unknown ≡ bytesTold all
     unfolding bytesTold
     marked-not m y f g = ap bytesTold (rw (y, ← f, g) at first-is)
 

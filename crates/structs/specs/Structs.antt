@@ -4,19 +4,18 @@ use Prim.Native.Nat.{ℕ, suc}
 use mathlib.Core.Bool.{cond}
 use mathlib.Core.List.{List, [], _∷_}
 use mathlib.Core.Option.{Option, none, some}
-use lib.ListN.{getD}
-use lib.Dec.{eqb}
 use Rattle.fields.specs.Text.{Text}
 use Rattle.names.specs.Pieces.{andThen}
 use Rattle.catalog.specs.Catalog.{Node, TypeDef, Catalog}
 use Rattle.catalog.specs.Finding.{isStruct, isTyped}
+use Rattle.nesting.specs.Graph.{marked}
 use Rattle.types.specs.Whole.{isMarkable}
 use Rattle.lookup.specs.Info.{structSize}
 
 -- the size of the first type of a name, if its mark says that it reads whole
 unfoldable pub markedFrom : List ℕ → Text → List TypeDef → ℕ → Option ℕ
 markedFrom ms w [] k = none
-markedFrom ms w (d ∷ ds) k = cond (isTyped w d) (cond (eqb (getD ms k 0) 1) (some (d .size)) none) (markedFrom ms w ds (suc k))
+markedFrom ms w (d ∷ ds) k = cond (isTyped w d) (cond (marked ms k) (some (d .size)) none) (markedFrom ms w ds (suc k))
 
 -- plc.rs `struct_size`, by the marks of the types that read whole
 unfoldable pub markedSize : List ℕ → Catalog → Node → Option ℕ

@@ -4,6 +4,7 @@ use fields::check::text_at;
 use fields::check::text_past;
 use fields::number::number_at;
 use lookup::Bytes;
+use nesting::graph::is_marked;
 use nodes::Found;
 use nodes::find::is_named;
 use nodes::place::type_count;
@@ -11,8 +12,6 @@ use nodes::place::type_past;
 use nodes::place::types_start;
 use types::whole_types;
 ghost use mathlib.Core.Path.{_≡_};
-ghost use lib.Dec.{eqb};
-ghost use lib.ListN.{getD};
 ghost use Rattle.fields.specs.Places.{valueAt};
 ghost use Rattle.names.specs.Pieces.{andThen};
 ghost use Rattle.catalog.specs.Catalog.{node, typeDef, catalogOf};
@@ -27,16 +26,6 @@ fn type_size(s: &[u8], at: usize) -> u64
     let size = text_past(s, at);
     let n = number_at(s, size, Width::Two, 65535);
     n as u64
-}
-
-// Whether type k is marked.
-fn is_marked(marks: &[u8], k: usize) -> bool
-    ensures { λ r. ⌜ r ≡ eqb (getD (now (marks .entry)) k 0) 1 ⌝ }
-{
-    if k < marks.len() {
-        return marks[k] == 1;
-    }
-    false
 }
 
 // The size of the first type of a name, if it is marked.
