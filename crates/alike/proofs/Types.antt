@@ -7,10 +7,11 @@ use mathlib.Core.Bool.{Bool, true, false}
 use mathlib.Core.List.{List, [], _∷_}
 use native.Mathlib.Omega.{arith}
 use lib.ListN.{length, take, drop, set, length-set, replicate}
+use Rattle.fields.proofs.Rows.{places-none, places-more}
 use Rattle.fields.specs.Text.{Text, same, alike}
 use Rattle.fields.specs.Format.{first, many}
 use Rattle.fields.specs.Fields.{number}
-use Rattle.fields.specs.Places.{told, valueAt, placeAt}
+use Rattle.fields.specs.Places.{told, valueAt, placeAt, placesFrom}
 use Rattle.fields.specs.declared.Refusal.{Refusal}
 use Rattle.fields.specs.declared.Refusal.the-variants.{NamesAlike}
 use Rattle.fields.specs.declared.Checked.{Checked}
@@ -18,10 +19,9 @@ use Rattle.fields.specs.declared.Checked.the-variants.{Good, Refused}
 use Rattle.fields.proofs.Chains.{told-bad, told-good}
 use Rattle.catalog.specs.Catalog.{node, typeDef, counts}
 use Rattle.catalog.specs.Finding.{any}
-use Rattle.catalog.specs.Alike.{placesFrom, nameAt, tagPlaces, typesStart, typePlaces, membersCount, memberPlaces, firstAlike, typeAgain, typesAlike, alikeVerdict}
+use Rattle.catalog.specs.Alike.{nameAt, tagPlaces, typesStart, typePlaces, membersCount, memberPlaces, firstAlike, typeAgain, typesAlike, alikeVerdict}
 use Rattle.nodes.proofs.Places.{number-past, type-past}
 use Rattle.alike.specs.Buckets.{namesBefore}
-use Rattle.nodes.proofs.Standing.{places-none, places-more}
 use Rattle.alike.proofs.Seen.{names-next, nodesTold}
 
 -- what the code tells of `k` types from a place on, where these names were seen

@@ -21,10 +21,10 @@ ghost use Prim.Native.Nat.{_≤_, _<_};
 ghost use lib.ListN.{length};
 ghost use Rattle.fields.specs.Text.{same, alike};
 ghost use Rattle.fields.specs.Format.{many};
-ghost use Rattle.fields.specs.Places.{told, placeAt};
+ghost use Rattle.fields.specs.Places.{told, placeAt, placesFrom};
 ghost use Rattle.catalog.specs.Catalog.{node, typeDef};
 ghost use Rattle.catalog.specs.Finding.{any};
-ghost use Rattle.catalog.specs.Alike.{placesFrom, nameAt, memberPlaces, typePlaces, firstAlike, typesAlike, alikeVerdict};
+ghost use Rattle.catalog.specs.Alike.{nameAt, memberPlaces, typePlaces, firstAlike, typesAlike, alikeVerdict};
 ghost use Rattle.alike.specs.Buckets.{bucketOf, alikeAt, namesBefore, Links, Searched};
 
 // A number below 1,024 that alike names share.

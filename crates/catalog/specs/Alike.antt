@@ -1,22 +1,17 @@
 -- Refusal 6: names that are alike. Names are told by their places in the file, so that the refusal can say which one it is.
 -- Assumes nothing: these are definitions.
-use Prim.Native.Nat.{ℕ, zero, suc, _+_}
+use Prim.Native.Nat.{ℕ}
 use mathlib.Core.Bool.{Bool, true, false, cond}
 use mathlib.Core.List.{List, [], _∷_}
 use lib.ListN.{length, drop}
 use Rattle.fields.specs.Text.{Text, same, alike}
 use Rattle.fields.specs.Format.{Verdict, fine, bad, first, Format}
 use Rattle.fields.specs.Fields.{number}
-use Rattle.fields.specs.Places.{valueAt, placeAt}
+use Rattle.fields.specs.Places.{valueAt, placeAt, placesFrom}
 use Rattle.fields.specs.declared.Refusal.the-variants.{NamesAlike}
 use Rattle.catalog.specs.Catalog.{name, aoi, node, typeDef, counts}
 use Rattle.catalog.specs.Finding.{any}
 use Rattle.fields.specs.Format.{many}
-
--- the places of `n` fields in a row, of which the first stands at `i`
-unfoldable pub placesFrom : {A : Type 0} → Format A → ℕ → List ℕ → ℕ → List ℕ
-placesFrom f zero s i = []
-placesFrom f (suc n) s i = i ∷ placesFrom f n s (placeAt f s i)
 
 -- a node or a type starts with its name
 unfoldable pub nameAt : List ℕ → ℕ → Text

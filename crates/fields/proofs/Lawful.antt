@@ -7,7 +7,7 @@ use mathlib.Core.Option.{Option, none, some}
 use Prim.Native.Nat.{ℕ, zero, suc, _+_}
 use native.Mathlib.Omega.{arith}
 use lib.ListN.{length, drop, length-append}
-use Rattle.fields.specs.Format.{Verdict, fine, bad, first, Format, joined, onward, _then_, leading, mapped, given, manyRead, manyLay, All, many, heldRead, heldLay, heldWithin, held}
+use Rattle.fields.specs.Format.{Verdict, fine, bad, first, Format, joined, onward, _then_, leading, mapped, given, manyRead, manyLay, All, many, heldRead, heldLay, heldWithin, held, among}
 use Rattle.fields.proofs.Lists.{Bytes, bytes-after}
 
 infixr 60 _and_
@@ -178,3 +178,20 @@ module _ {A : Type 0} (f : Format A) (F : Lawful f) where
   pub lawful-held : (n : ℕ) → Lawful (held f n)
   unfolding held
   lawful-held n = record { along = held-along n; kept = held-kept n; limits = held-limits n; back = held-back n }
+
+-- ---- one kind among several: what makes it is told back, and only of that kind
+module _ {A B : Type 0} (to : A → B) (from : B → Option A) (f : Format A) (F : Lawful f) (there : (a : A) → from (to a) ≡ some a)
+    (again : (b : B) (a : A) → from b ≡ some a → to a ≡ b) where
+  among-back : (b : B) (o : Option A) → from b ≡ o → heldWithin f 1 o → (r : List ℕ) (i : ℕ) → among to from f .read (heldLay f o ++ r) i ≡ given b r (i + length (heldLay f o))
+  unfolding among heldLay given
+  among-back b none e w r i = absurd (omega arith)
+  among-back b (some a) e w r i = rw (F .back a (w .1) r i, again b a e)
+
+  pub lawful-among : Lawful (among to from f)
+  unfolding among heldLay
+  lawful-among = record {
+    along = F .along;
+    kept = λ l i b e. ap (λ x. heldLay f x ++ f .read l i .rest) (there (f .read l i .value)) ∙ F .kept l i b e;
+    limits = λ l i e. subst (heldWithin f 1) (sym (there (f .read l i .value))) (omega arith, F .limits l i e);
+    back = λ b w r i. among-back b (from b) refl w r i;
+  }

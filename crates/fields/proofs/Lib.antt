@@ -9,6 +9,7 @@ pub mod Lists
 pub mod Numbers
 pub mod Patches
 pub mod Reading
+pub mod Rows
 pub mod Scans
 pub mod Spelled
 pub mod Texts

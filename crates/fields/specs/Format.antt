@@ -111,3 +111,11 @@ held f n = record { read = heldRead f n; lay = heldLay f; within = heldWithin f 
 unfoldable pub flagOf : {A : Type 0} → Option A → ℕ
 flagOf none = 0
 flagOf (some a) = 1
+
+-- one kind of value among several: `to` makes it, `from` tells what it was made of
+unfoldable pub among : {A B : Type 0} → (A → B) → (B → Option A) → Format A → Format B
+among to from f = record {
+  read = λ l i. record { value = to (f .read l i .value); rest = f .read l i .rest; place = f .read l i .place; verdict = f .read l i .verdict };
+  lay = λ b. heldLay f (from b);
+  within = λ b. heldWithin f 1 (from b);
+}

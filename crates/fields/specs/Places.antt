@@ -1,6 +1,6 @@
 -- Formats at places of a lent file: what the code's checks and readers answer.
 -- Assumes nothing: these are definitions.
-use Prim.Native.Nat.{ℕ, _+_, _-_}
+use Prim.Native.Nat.{ℕ, zero, suc, _+_, _-_}
 use mathlib.Core.Bool.{Bool, true, false, cond}
 use mathlib.Core.List.{List, [], _∷_}
 use mathlib.Core.Option.{Option, none, some}
@@ -36,6 +36,11 @@ valueAt f s i = f .read (drop i s) i .value
 -- where that field ends
 unfoldable pub placeAt : {A : Type 0} → Format A → List ℕ → ℕ → ℕ
 placeAt f s i = f .read (drop i s) i .place
+
+-- the places of `n` fields in a row, of which the first stands at `i`
+unfoldable pub placesFrom : {A : Type 0} → Format A → ℕ → List ℕ → ℕ → List ℕ
+placesFrom f zero s i = []
+placesFrom f (suc n) s i = i ∷ placesFrom f n s (placeAt f s i)
 
 -- the bytes of a width
 abbrev pub bytesOf : Width → ℕ

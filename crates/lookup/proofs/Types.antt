@@ -7,12 +7,12 @@ use mathlib.Core.Option.{Option, none}
 use lib.ListN.{length, take, drop}
 use Rattle.fields.specs.Text.{Text}
 use Rattle.fields.specs.Fields.{number}
-use Rattle.fields.specs.Places.{valueAt, placeAt}
+use Rattle.fields.specs.Places.{valueAt, placeAt, placesFrom}
 use Rattle.fields.proofs.Reading.{number-place}
 use Rattle.names.specs.Pieces.{andThen}
 use Rattle.catalog.specs.Catalog.{node, typeDef, counts}
 use Rattle.catalog.specs.Finding.{find}
-use Rattle.catalog.specs.Alike.{placesFrom, typesStart, typePlaces, membersCount, memberPlaces}
+use Rattle.catalog.specs.Alike.{typesStart, typePlaces, membersCount, memberPlaces}
 use Rattle.nodes.specs.Placed.{foundTold, isNamedAt, nodePlace}
 use Rattle.nodes.specs.declared.Found.{Found}
 use Rattle.nodes.specs.declared.Found.the-variants.{At, Nowhere}

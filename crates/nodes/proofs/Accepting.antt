@@ -10,7 +10,7 @@ use lib.ListN.{length}
 use Rattle.fields.specs.Text.{Text, same, alike}
 use Rattle.fields.specs.Format.{Verdict, fine, bad, first, many}
 use Rattle.fields.specs.Fields.{number}
-use Rattle.fields.specs.Places.{valueAt, placeAt}
+use Rattle.fields.specs.Places.{valueAt, placeAt, placesFrom}
 use Rattle.fields.specs.declared.Refusal.{Refusal}
 use Rattle.fields.specs.declared.Refusal.the-variants.{NamesAlike, TypesTooDeep}
 use Rattle.fields.proofs.Lists.{Bytes}
@@ -18,7 +18,7 @@ use Rattle.fields.proofs.Lawful.{first-fine}
 use Rattle.fields.proofs.Reading.{many-value-none, many-value-more, number-place}
 use Rattle.catalog.specs.Catalog.{TypeDef, Catalog, node, typeDef, counts, catalogOf, fieldsVerdict, layout, longestFile}
 use Rattle.catalog.specs.Finding.{any, every}
-use Rattle.catalog.specs.Alike.{placesFrom, nameAt, tagPlaces, typesStart, typePlaces, membersCount, memberPlaces, firstAlike, typeAgain, typesAlike, alikeVerdict}
+use Rattle.catalog.specs.Alike.{nameAt, tagPlaces, typesStart, typePlaces, membersCount, memberPlaces, firstAlike, typeAgain, typesAlike, alikeVerdict}
 use Rattle.catalog.specs.Nesting.{nestsOver, deepest, firstDeep, nestingVerdict}
 use Rattle.catalog.specs.Check.{catalogVerdict, differ, nodeNames, typeNames, membersDiffer, Acceptable}
 use Rattle.catalog.proofs.Round.{lawful-node, lawful-type, catalog-accepted, catalog-accepts}

@@ -9,23 +9,23 @@ use mathlib.Core.List.{List}
 use mathlib.Core.Option.{Option, none, some, Option·map}
 use native.Mathlib.Omega.{arith}
 use lib.ListN.{drop}
+use Rattle.fields.proofs.Rows.{places-none, places-more}
 use Rattle.fields.specs.Text.{Text, same, alike}
 use Rattle.fields.specs.Format.{Format, _then_, mapped, many}
 use Rattle.fields.specs.Fields.{textOf}
 use Rattle.fields.specs.Files.{fileOf}
-use Rattle.fields.specs.Places.{valueAt, placeAt, part}
+use Rattle.fields.specs.Places.{valueAt, placeAt, part, placesFrom}
 use Rattle.fields.proofs.Lawful.{Lawful, lawful-many}
 use Rattle.fields.proofs.Reading.{then-value, leading-value, mapped-value, many-value-none, many-value-more, text-value}
 use Rattle.catalog.specs.Catalog.{Node, TypeDef, name, fromKind, nodeFields, node, typeDef, counts, countsOf, tagsAndTypes, catalog, catalogOf}
 use Rattle.catalog.specs.Finding.{find}
-use Rattle.catalog.specs.Alike.{placesFrom, nameAt, tagPlaces}
+use Rattle.catalog.specs.Alike.{nameAt, tagPlaces}
 use Rattle.catalog.proofs.Round.{lawful-name, lawful-node, lawful-counts}
 use Rattle.nodes.specs.Reading.{foundIn}
 use Rattle.nodes.specs.Lookup.{orElse, isNamed, isCalled, nodeNamed, tagOf}
 use Rattle.nodes.specs.Placed.{foundTold, isNamedAt, isCalledAt, nodePlace, tagPlace}
 use Rattle.nodes.specs.declared.Found.{Found}
 use Rattle.nodes.specs.declared.Found.the-variants.{At, Nowhere}
-use Rattle.nodes.proofs.Standing.{places-none, places-more}
 
 -- ---- searching the places of so many fields in a row, for any test `t` of which the code's answer at the place `at` is `r`
 module _ {A : Type 0} (f : Format A) (t : ℕ → Bool) (s : List ℕ) (at k : ℕ) (all : Option ℕ) (i : find t (placesFrom f k s at) ≡ all) where

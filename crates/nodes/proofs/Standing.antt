@@ -11,44 +11,15 @@ use Rattle.fields.specs.Text.{Text, same}
 use Rattle.fields.specs.Format.{Format, _then_, mapped, many}
 use Rattle.fields.specs.Fields.{number, choice, whole, limited, textOf, textPast}
 use Rattle.fields.specs.Files.{fileOf}
-use Rattle.fields.specs.Places.{valueAt, placeAt, part}
+use Rattle.fields.specs.Places.{valueAt, placeAt, part, placesFrom}
 use Rattle.fields.proofs.Lawful.{Lawful, lawful-many, many-length}
 use Rattle.fields.proofs.Reading.{then-value, leading-value, mapped-value, many-value-more, text-value, number-value, choice-value}
 use Rattle.catalog.specs.Catalog.{Node, TypeDef, kindOf, kindByte, aoiOf, aoiByte, name, kind, aoi, dims, fromId, fromKind, nodeFields, node, members, fromAoi, typeFields, typeDef, counts, countsOf, tagsAndTypes, catalog, catalogOf}
 use Rattle.catalog.specs.Finding.{isStruct, isParts, isTyped}
-use Rattle.catalog.specs.Alike.{placesFrom, nameAt, typesStart, typePlaces, membersCount}
+use Rattle.fields.proofs.Rows.{values-from, values-length, places-length}
+use Rattle.catalog.specs.Alike.{nameAt, typesStart, typePlaces, membersCount}
 use Rattle.catalog.proofs.Round.{lawful-name, lawful-kind, lawful-type-size, lawful-aoi, lawful-node, lawful-type, lawful-counts}
 use Rattle.nodes.proofs.Places.{counted-value, number-past, name-past}
-
--- ---- fields in a row and their places
-module _ {A : Type 0} (f : Format A) (s : List ℕ) where
-  pub places-length : (n i : ℕ) → length (placesFrom f n s i) ≡ n
-  unfolding placesFrom
-  places-length zero i = refl
-  places-length (suc n) i = ap suc (places-length n (placeAt f s i))
-
-  pub places-more : (n i : ℕ) → 0 < n → placesFrom f n s i ≡ i ∷ placesFrom f (n - 1) s (placeAt f s i)
-  unfolding placesFrom
-  places-more zero i h = absurd (omega arith)
-  places-more (suc n) i h = let z : suc n - 1 ≡ n = omega arith in rw z
-
-  pub places-none : (n i : ℕ) → n ≤ 0 → placesFrom f n s i ≡ []
-  unfolding placesFrom
-  places-none zero i h = refl
-  places-none (suc n) i h = absurd (omega arith)
-
-  -- what stands at the `k`-th place is the `k`-th value
-  pub values-from : Lawful f → (n k i : ℕ) → k < n → drop k (valueAt (many f n) s i) ≡ valueAt f s (getD (placesFrom f n s i) k 0) ∷ drop (suc k) (valueAt (many f n) s i)
-  unfolding placesFrom
-  values-from F zero k i h = absurd (omega arith)
-  values-from F (suc n) zero i h = let z : suc n - 1 ≡ n = omega arith in rw (many-value-more f s i (suc n) F (omega arith))
-  values-from F (suc n) (suc k) i h =
-      let z : suc n - 1 ≡ n = omega arith in
-      rw (many-value-more f s i (suc n) F (omega arith), z) (values-from F n k (placeAt f s i) (omega arith))
-
-  pub values-length : Lawful f → (n i : ℕ) → length (valueAt (many f n) s i) ≡ n
-  unfolding many valueAt
-  values-length F n i = many-length f F n (drop i s) i
 
 -- ---- the types of a file
 pub types-are : (s : List ℕ) → catalogOf s .types ≡ valueAt (many typeDef (valueAt counts s 1 .1)) s (typesStart s)

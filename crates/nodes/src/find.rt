@@ -7,10 +7,11 @@ use fields::check::text_at;
 use fields::text::equal;
 use fields::text::equal_ignoring_case;
 ghost use mathlib.Core.Path.{_≡_};
+ghost use Rattle.fields.specs.Places.{placesFrom};
 ghost use Rattle.fields.specs.Text.{same, alike};
 ghost use Rattle.catalog.specs.Catalog.{node};
 ghost use Rattle.catalog.specs.Finding.{find};
-ghost use Rattle.catalog.specs.Alike.{placesFrom, nameAt};
+ghost use Rattle.catalog.specs.Alike.{nameAt};
 ghost use Rattle.nodes.specs.Placed.{foundTold, isNamedAt, isCalledAt, nodePlace, tagPlace};
 
 // Whether the name at a place is just this one.

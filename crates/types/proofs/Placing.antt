@@ -11,14 +11,15 @@ use native.Mathlib.Numerals.{add-one}
 use lib.ListN.{length, take, drop, getD, set, length-set, getElem?, drop-of-length-le}
 use lib.Seq.{length-take-le, take-suc-set, getD-take}
 use borrow.Author.Tests.{lt-ltb, le-ltb}
+use Rattle.fields.proofs.Rows.{places-more, places-none}
 use Rattle.fields.specs.Text.{Text, same}
-use Rattle.fields.specs.Places.{valueAt, placeAt}
+use Rattle.fields.specs.Places.{valueAt, placeAt, placesFrom}
 use Rattle.catalog.specs.Catalog.{TypeDef, typeDef, counts, catalogOf}
 use Rattle.catalog.specs.Finding.{isTyped}
-use Rattle.catalog.specs.Alike.{placesFrom, nameAt, typesStart, typePlaces}
+use Rattle.catalog.specs.Alike.{nameAt, typesStart, typePlaces}
 use Rattle.nesting.specs.Graph.{typeIndex}
 use Rattle.types.specs.Tables.{Placed, listed}
-use Rattle.nodes.proofs.Standing.{places-more, places-none, types-from, type-places-count, typed}
+use Rattle.nodes.proofs.Standing.{types-from, type-places-count, typed}
 
 -- ---- the loop: `k` of the places are written, and the next type stands at `at`
 pub record Placing (s : List ℕ) (count : ℕ) (places : List ℕ) (at k : ℕ) : Type 0 where

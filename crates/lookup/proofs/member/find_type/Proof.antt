@@ -1,9 +1,9 @@
 -- `find_type` meets its contract: what is left of the places of types gives what all of them give.
 use mathlib.Core.Path.{_≡_}
 use borrow.Author.Needs.{needs}
+use Rattle.fields.specs.Places.{placesFrom}
 use Rattle.catalog.specs.Finding.{find}
 use Rattle.catalog.specs.Catalog.{typeDef}
-use Rattle.catalog.specs.Alike.{placesFrom}
 use Rattle.nodes.specs.Placed.{isNamedAt}
 use Rattle.nodes.proofs.Finds.{search-none, search-here, search-later}
 use Rattle.lookup.specs.Placed.{typePlace}
