@@ -8,10 +8,11 @@ use native.Mathlib.Omega.{arith}
 use lib.Dec.{eqb}
 use lib.ListN.{length, take, drop}
 use lib.Seq.{take-add}
+use Rattle.fields.specs.Options.{andThen}
 use Rattle.fields.specs.Text.{Text}
 use Rattle.fields.specs.Places.{scan, part}
 use Rattle.fields.proofs.Lists.{drop-next, drop-past}
-use Rattle.names.specs.Pieces.{andThen, parts, isNot}
+use Rattle.names.specs.Pieces.{parts, isNot}
 use Rattle.names.proofs.Indexing.{part-at, laterParts}
 use Rattle.nodes.specs.Placed.{foundTold, tagPlace}
 use Rattle.nodes.specs.declared.Found.{Found}

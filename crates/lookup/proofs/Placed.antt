@@ -7,11 +7,12 @@ use mathlib.Core.List.{List, [], _∷_, _++_}
 use mathlib.Core.Option.{Option, none, some, Option·map}
 use lib.Dec.{eqb, ltb}
 use lib.ListN.{length, take, drop}
+use Rattle.fields.specs.Options.{andThen, orElse}
 use Rattle.fields.specs.Text.{Text}
 use Rattle.fields.specs.Fields.{number}
 use Rattle.fields.specs.Places.{valueAt, placeAt}
 use Rattle.fields.proofs.Reading.{number-place}
-use Rattle.names.specs.Pieces.{andThen, parts}
+use Rattle.names.specs.Pieces.{parts}
 use Rattle.names.specs.Strip.{stripped}
 use Rattle.names.specs.Listing.{longestName}
 use Rattle.catalog.specs.Catalog.{Node, node, typeDef, counts, catalogOf}
@@ -19,7 +20,7 @@ use Rattle.catalog.specs.Finding.{find, isTyped, typeNamed}
 use Rattle.catalog.specs.Alike.{typesStart, typePlaces, membersCount, memberPlaces}
 use Rattle.catalog.proofs.Round.{lawful-type}
 use Rattle.nodes.specs.Reading.{foundIn}
-use Rattle.nodes.specs.Lookup.{orElse, nodeNamed}
+use Rattle.nodes.specs.Lookup.{nodeNamed}
 use Rattle.nodes.specs.Placed.{foundTold, isNamedAt, tagPlace}
 use Rattle.nodes.proofs.Finds.{found-value, either-is, node-is, tag-is}
 use Rattle.nodes.proofs.Standing.{types-are, typed, members-left}

@@ -10,6 +10,7 @@ use lib.Dec.{eqb, leb}
 use lib.ListN.{length, take, drop, getD, length-append, length-take, length-drop}
 use lib.Seq.{take-all, take-at, drop-at, length-take-le}
 use borrow.Author.Tests.{lt-ltb, le-ltb, le-leb, lt-leb, leb-true, leb-false, eqb-true, eqb-false, not-true, not-false}
+use Rattle.fields.specs.Options.{orElse}
 use Rattle.fields.specs.Text.{Text}
 use Rattle.fields.specs.Places.{scan}
 use Rattle.fields.specs.Writing.{patch, answered, writing, buffer}
@@ -23,7 +24,6 @@ use Rattle.names.specs.Pieces.{parts}
 use Rattle.names.specs.Name.{inProgram, isUndotted, programLength}
 use Rattle.names.specs.Strip.{skipping, isKept, stripFrom, stripped}
 use Rattle.names.specs.Listing.{longestName}
-use Rattle.nodes.specs.Lookup.{orElse}
 use Rattle.nodes.specs.Placed.{foundTold, tagPlace}
 use Rattle.nodes.specs.declared.Found.{Found}
 use Rattle.nodes.specs.declared.Found.the-variants.{At, Nowhere}

@@ -5,11 +5,11 @@ use mathlib.Core.Path.{_≡_, sym, ap, ap₂, _∙_}
 use mathlib.Core.List.{List}
 use mathlib.Core.Option.{Option, none}
 use lib.ListN.{length, take, drop}
+use Rattle.fields.specs.Options.{andThen}
 use Rattle.fields.specs.Text.{Text}
 use Rattle.fields.specs.Fields.{number}
 use Rattle.fields.specs.Places.{valueAt, placeAt, placesFrom}
 use Rattle.fields.proofs.Reading.{number-place}
-use Rattle.names.specs.Pieces.{andThen}
 use Rattle.catalog.specs.Catalog.{node, typeDef, counts}
 use Rattle.catalog.specs.Finding.{find}
 use Rattle.catalog.specs.Alike.{typesStart, typePlaces, membersCount, memberPlaces}

@@ -6,15 +6,16 @@ use mathlib.Core.List.{List, [], _∷_, _++_}
 use mathlib.Core.Option.{Option, none, some}
 use lib.Dec.{eqb, leb, ltb}
 use lib.ListN.{length, take, drop}
+use Rattle.fields.specs.Options.{andThen, orElse}
 use Rattle.fields.specs.Text.{Text}
-use Rattle.names.specs.Pieces.{andThen, parts}
+use Rattle.names.specs.Pieces.{parts}
 use Rattle.names.specs.Name.{programLength}
 use Rattle.names.specs.Strip.{stripped}
 use Rattle.names.specs.Listing.{longestName}
 use Rattle.catalog.specs.Catalog.{Node, TypeDef, Catalog}
 use Rattle.catalog.specs.Finding.{isStruct, typeNamed}
 use Rattle.catalog.specs.Nesting.{readsWhole}
-use Rattle.nodes.specs.Lookup.{orElse, nodeNamed, tagOf}
+use Rattle.nodes.specs.Lookup.{nodeNamed, tagOf}
 
 -- 01, info: "any program part", 0 where the name has no dot to end it
 unfoldable pub prefixLength : Text → ℕ

@@ -6,15 +6,15 @@ use mathlib.Core.List.{List, [], _∷_, _++_}
 use mathlib.Core.Option.{Option, none, some}
 use lib.Dec.{eqb, ltb}
 use lib.ListN.{length, take, drop}
+use Rattle.fields.specs.Options.{andThen, orElse}
 use Rattle.fields.specs.Text.{Text}
 use Rattle.fields.specs.Places.{valueAt}
-use Rattle.names.specs.Pieces.{andThen, parts}
+use Rattle.names.specs.Pieces.{parts}
 use Rattle.names.specs.Strip.{stripped}
 use Rattle.names.specs.Listing.{longestName}
 use Rattle.catalog.specs.Catalog.{node}
 use Rattle.catalog.specs.Finding.{find}
 use Rattle.catalog.specs.Alike.{typePlaces, memberPlaces}
-use Rattle.nodes.specs.Lookup.{orElse}
 use Rattle.nodes.specs.Placed.{isNamedAt, nodePlace, tagPlace}
 use Rattle.lookup.specs.Info.{prefixLength}
 use Rattle.lookup.specs.Told.{partsBehind}

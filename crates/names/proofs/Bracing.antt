@@ -9,13 +9,13 @@ use lib.ListN.{length, take, drop, getD, length-take, length-drop, take-append-d
 use lib.Seq.{getD-drop}
 use lib.Dec.{ltb}
 use borrow.Author.Tests.{lt-ltb, le-ltb, eq-eqb, ne-eqb}
+use Rattle.fields.specs.Options.{andThen}
 use Rattle.fields.specs.Text.{Text}
 use Rattle.fields.specs.Decimal.{numeralOf}
 use Rattle.fields.specs.Places.{part, numberTold}
 use Rattle.fields.specs.declared.Numeral.the-variants.{Value, Missing}
 use Rattle.fields.proofs.Decimals.{missing-is, value-is}
 use Rattle.fields.proofs.Lists.{drop-next, drop-past}
-use Rattle.names.specs.Pieces.{andThen}
 use Rattle.names.specs.Range.{lastFrom, beforeBrace, rangeAt, rangeOf}
 use Rattle.names.specs.Told.{rangeTold}
 use Rattle.names.specs.declared.Ranged.{Ranged}

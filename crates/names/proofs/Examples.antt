@@ -3,10 +3,11 @@
 use mathlib.Core.Path.{_≡_, refl}
 use mathlib.Core.List.{List, [], _∷_}
 use mathlib.Core.Option.{none, some}
+use Rattle.fields.specs.Options.{andThen}
 use Rattle.fields.specs.Text.{Text, bytes, between, lower, lowered, same, alike}
 use Rattle.fields.specs.Decimal.{isDigit, allDigits, valueFrom, numeralOf}
 use Rattle.fields.specs.Places.{scan}
-use Rattle.names.specs.Pieces.{andThen, allOf, joined, onFirst, parts, pieces}
+use Rattle.names.specs.Pieces.{allOf, joined, onFirst, parts, pieces}
 use Rattle.names.specs.Name.{Key, member, item, several, Token, Reading, stops, isLetter, isNameByte, nameLength, isName, dotted, indexesOf, indexKey, indexed, isInside, insideLength, bracketed, laterToken, before, following, laterTokens, allTokens, inProgram, isUndotted, programLength, startsToken, readName, listed, tokensOf}
 use Rattle.names.specs.Strip.{skipping, isKept, stripFrom, stripped}
 use Rattle.names.specs.Range.{lastFrom, beforeBrace, rangeAt, rangeOf}

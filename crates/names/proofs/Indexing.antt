@@ -9,6 +9,7 @@ use native.Mathlib.Omega.{arith}
 use lib.ListN.{length, drop}
 use lib.Dec.{eqb}
 use borrow.Author.Tests.{not-true, not-false}
+use Rattle.fields.specs.Options.{andThen}
 use Rattle.fields.specs.Text.{Text}
 use Rattle.fields.specs.Decimal.{numeralOf}
 use Rattle.fields.specs.Format.{All}
@@ -17,7 +18,7 @@ use Rattle.fields.specs.declared.Numeral.the-variants.{Value, Missing}
 use Rattle.fields.proofs.Lists.{drop-next, drop-past, eqb-sym, part-drop}
 use Rattle.fields.proofs.Scans.{Passes, Ends, scan-at}
 use Rattle.fields.proofs.Decimals.{missing-is, value-is}
-use Rattle.names.specs.Pieces.{andThen, allOf, onFirst, parts, isNot}
+use Rattle.names.specs.Pieces.{allOf, onFirst, parts, isNot}
 use Rattle.names.specs.Name.{indexesOf}
 use Rattle.names.specs.Steps.{countTold}
 use Rattle.names.specs.declared.Indexes.{Indexes}

@@ -10,6 +10,7 @@ use lib.ListN.{length, take, drop, length-take}
 use lib.Seq.{drop-drop}
 use lib.Dec.{ltb}
 use borrow.Author.Tests.{lt-ltb, le-ltb}
+use Rattle.fields.specs.Options.{andThen}
 use Rattle.fields.specs.Text.{Text}
 use Rattle.fields.specs.Decimal.{numeralOf}
 use Rattle.fields.specs.Format.{fine}
@@ -20,7 +21,6 @@ use Rattle.fields.specs.declared.Written.{Written}
 use Rattle.fields.specs.declared.Written.the-variants.{Refused}
 use Rattle.fields.proofs.Lists.{cond-elim}
 use Rattle.fields.proofs.Patches.{patch-fits, length-patch}
-use Rattle.names.specs.Pieces.{andThen}
 use Rattle.names.specs.Name.{Token, Reading, tokens, stops, readName}
 use Rattle.names.specs.Range.{Range, lastFrom, beforeBrace, rangeAt, rangeOf}
 use Rattle.names.specs.Steps.{firstStep}

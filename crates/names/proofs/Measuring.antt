@@ -8,13 +8,14 @@ use Prim.Native.Nat.{ℕ, suc, _+_, _-_, _*_, _≤_, _<_}
 use native.Mathlib.Omega.{arith}
 use lib.ListN.{length, take, length-append, length-take}
 use lib.Dec.{eqb}
+use Rattle.fields.specs.Options.{andThen}
 use Rattle.fields.specs.Text.{Text}
 use Rattle.fields.specs.Decimal.{numeralOf}
 use Rattle.fields.specs.Fields.{digits}
 use Rattle.fields.specs.Places.{part}
 use Rattle.fields.proofs.Lists.{part-length}
 use Rattle.fields.proofs.Spelled.{length-digits}
-use Rattle.names.specs.Pieces.{andThen, allOf, onFirst, parts}
+use Rattle.names.specs.Pieces.{allOf, onFirst, parts}
 use Rattle.names.specs.Name.{Key, member, Token, reads, Reading, tokens, stops, indexesOf, indexKey, laterToken, before, readName, bracket}
 use Rattle.names.specs.Steps.{indexesIn, stepAt, readFrom}
 use Rattle.names.specs.Listing.{longestName, layIndexes, layToken, layTokens}

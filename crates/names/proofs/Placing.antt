@@ -7,6 +7,7 @@ use Prim.Native.Nat.{ℕ, suc, _+_, _-_, _*_, _%_, _^_, _≤_, _<_}
 use native.Mathlib.Omega.{arith}
 use lib.ListN.{length, take, drop, length-append, length-take, take-append-drop}
 use lib.Seq.{take-append-seam, length-take-le}
+use Rattle.fields.specs.Options.{andThen}
 use Rattle.fields.specs.Text.{Text}
 use Rattle.fields.specs.Decimal.{numeralOf}
 use Rattle.fields.specs.Fields.{digits}
@@ -18,7 +19,7 @@ use Rattle.fields.proofs.Decimals.{missing-is, value-is, numeral-fits}
 use Rattle.fields.proofs.Spelled.{length-digits}
 use Rattle.fields.proofs.Patches.{length-patch}
 use Rattle.fields.proofs.Filling.{filling-byte, filling-number, Filling, filling-start, filling-room, filling-next, filling-end, placing-start, placing-end}
-use Rattle.names.specs.Pieces.{andThen, isNot}
+use Rattle.names.specs.Pieces.{isNot}
 use Rattle.names.specs.Name.{member, Token, Reading, tokens, stops, indexesOf, laterToken, before, readName, bracket}
 use Rattle.names.specs.Steps.{indexesIn, stepAt, readFrom}
 use Rattle.names.specs.Listing.{longestName, layIndexes, layToken, layTokens, layReading, tokenListing}

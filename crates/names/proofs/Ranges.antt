@@ -11,13 +11,14 @@ use lib.ListN.{length, drop, getD, length-append, length-drop, drop-of-length-le
 use lib.Seq.{take-append-seam, drop-append-add, getD-append-seam, getD-append-add, getD-drop}
 use lib.Dec.{eqb, ltb}
 use borrow.Author.Tests.{lt-ltb, ltb-true, ltb-false}
+use Rattle.fields.specs.Options.{andThen}
 use Rattle.fields.specs.Text.{Text, between}
 use Rattle.fields.specs.Decimal.{isDigit, numeralOf}
 use Rattle.fields.specs.Format.{All}
 use Rattle.fields.proofs.Lists.{all-append, all-weaken, all-at}
 use Rattle.fields.proofs.Scans.{Passes, passes-other}
 use Rattle.fields.proofs.Decimals.{digits-each, numeral-digits}
-use Rattle.names.specs.Pieces.{andThen, joined}
+use Rattle.names.specs.Pieces.{joined}
 use Rattle.names.specs.Name.{Key, Token, tokens, isLetter, isNameByte, isName, laterToken, reads, bracket, readName, textOf, spelling}
 use Rattle.names.specs.Range.{lastFrom, beforeBrace, rangeAt, rangeOf, brace}
 use Rattle.names.proofs.Tokens.{name-some, name-bytes, Form, dot, indexes, form-of, later-long}

@@ -11,6 +11,7 @@ use lib.ListN.{length, take, drop, take-append-drop, length-append, length-drop}
 use lib.Seq.{take-append-seam}
 use lib.Dec.{eqb, ltb}
 use borrow.Author.Tests.{eqb-true, lt-ltb, eq-eqb, not-false}
+use Rattle.fields.specs.Options.{andThen}
 use Rattle.fields.specs.Text.{Text, between}
 use Rattle.fields.specs.Decimal.{isDigit, allDigits, numeralOf}
 use Rattle.fields.specs.Places.{scan}
@@ -18,7 +19,7 @@ use Rattle.fields.specs.Format.{All}
 use Rattle.fields.proofs.Lists.{and-left, and-right, eqb-sym, all-append, all-weaken}
 use Rattle.fields.proofs.Scans.{Passes, Misses, passes-other, Ends, scan-all, scan-over, scan-ends}
 use Rattle.fields.proofs.Decimals.{digits-more, digits-first, digits-each, numeral-digits}
-use Rattle.names.specs.Pieces.{andThen, allOf, onFirst, parts}
+use Rattle.names.specs.Pieces.{allOf, onFirst, parts}
 use Rattle.names.specs.Name.{Key, member, Piece, reads, stopsAt, isLetter, isNameByte, nameLength, isName, dotted, indexesOf, indexKey, indexed, isInside, insideLength, bracketed, laterToken, startsToken, bracket}
 use Rattle.names.proofs.Cutting.{Opens, parts-plain}
 

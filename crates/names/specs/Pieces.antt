@@ -1,4 +1,4 @@
--- Cutting texts: at each byte of a kind, or before it; and values that may be missing.
+-- Cutting texts: at each byte of a kind, or before it; and several values that may be missing.
 -- Assumes nothing: these are definitions.
 use Prim.Native.Nat.{ℕ}
 use mathlib.Core.Bool.{Bool, cond, not}
@@ -6,11 +6,7 @@ use mathlib.Core.List.{List, [], _∷_, _++_}
 use mathlib.Core.Option.{Option, none, some}
 use lib.Dec.{eqb}
 use Rattle.fields.specs.Text.{Text}
-
--- what a value that is there leads to
-unfoldable pub andThen : {A B : Type 0} → Option A → (A → Option B) → Option B
-andThen none f = none
-andThen (some a) f = f a
+use Rattle.fields.specs.Options.{andThen}
 
 -- all values, if each is there
 unfoldable pub allOf : {A : Type 0} → List (Option A) → Option (List A)

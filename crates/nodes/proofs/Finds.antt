@@ -9,6 +9,7 @@ use mathlib.Core.List.{List}
 use mathlib.Core.Option.{Option, none, some, Option·map}
 use native.Mathlib.Omega.{arith}
 use lib.ListN.{drop}
+use Rattle.fields.specs.Options.{orElse}
 use Rattle.fields.proofs.Rows.{places-none, places-more}
 use Rattle.fields.specs.Text.{Text, same, alike}
 use Rattle.fields.specs.Format.{Format, _then_, mapped, many}
@@ -22,7 +23,7 @@ use Rattle.catalog.specs.Finding.{find}
 use Rattle.catalog.specs.Alike.{nameAt, tagPlaces}
 use Rattle.catalog.proofs.Round.{lawful-name, lawful-node, lawful-counts}
 use Rattle.nodes.specs.Reading.{foundIn}
-use Rattle.nodes.specs.Lookup.{orElse, isNamed, isCalled, nodeNamed, tagOf}
+use Rattle.nodes.specs.Lookup.{isNamed, isCalled, nodeNamed, tagOf}
 use Rattle.nodes.specs.Placed.{foundTold, isNamedAt, isCalledAt, nodePlace, tagPlace}
 use Rattle.nodes.specs.declared.Found.{Found}
 use Rattle.nodes.specs.declared.Found.the-variants.{At, Nowhere}

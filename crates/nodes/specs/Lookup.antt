@@ -3,15 +3,11 @@
 use Prim.Native.Nat.{ℕ}
 use mathlib.Core.Bool.{Bool}
 use mathlib.Core.List.{List}
-use mathlib.Core.Option.{Option, none, some}
+use mathlib.Core.Option.{Option}
 use Rattle.fields.specs.Text.{Text, same, alike}
+use Rattle.fields.specs.Options.{orElse}
 use Rattle.catalog.specs.Catalog.{Node, Catalog}
 use Rattle.catalog.specs.Finding.{find}
-
--- the first value that is there
-unfoldable pub orElse : {A : Type 0} → Option A → Option A → Option A
-orElse none y = y
-orElse (some x) y = some x
 
 -- a node of just this name
 unfoldable pub isNamed : Text → Node → Bool

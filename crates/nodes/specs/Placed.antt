@@ -4,10 +4,10 @@ use Prim.Native.Nat.{ℕ}
 use mathlib.Core.Bool.{Bool}
 use mathlib.Core.List.{List}
 use mathlib.Core.Option.{Option, none, some}
+use Rattle.fields.specs.Options.{orElse}
 use Rattle.fields.specs.Text.{Text, same, alike}
 use Rattle.catalog.specs.Finding.{find}
 use Rattle.catalog.specs.Alike.{nameAt, tagPlaces}
-use Rattle.nodes.specs.Lookup.{orElse}
 use Rattle.nodes.specs.declared.Found.{Found}
 use Rattle.nodes.specs.declared.Found.the-variants.{At, Nowhere}
 

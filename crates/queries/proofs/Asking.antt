@@ -10,6 +10,7 @@ use lib.Dec.{ltb}
 use lib.ListN.{length, take, drop}
 use lib.Seq.{take-length}
 use borrow.Author.Tests.{lt-ltb, le-ltb, ltb-false}
+use Rattle.fields.specs.Options.{andThen}
 use Rattle.fields.specs.Text.{Text}
 use Rattle.fields.specs.Format.{Verdict, fine, bad, first}
 use Rattle.fields.specs.Fields.{textBytes, indexCheck}
@@ -42,7 +43,6 @@ use Rattle.lookup.specs.declared.Bytes.{Bytes as Told-bytes}
 use Rattle.lookup.specs.declared.Bytes.the-variants.{Known as KnownBytes, Unknown as UnknownBytes}
 use Rattle.structs.specs.Structs.{structTold}
 use Rattle.structs.proofs.Accepted.{struct-is}
-use Rattle.names.specs.Pieces.{andThen}
 use Rattle.queries.specs.declared.WholeSize.the-variants.{Is, Unknown, Refused as WholeRefused}
 use Rattle.queries.specs.Queries.{wholeOf, measuredOf, lengthVerdict, nameVerdict, queryVerdict, found, answerOf, shownAs, lookedIn, blankNode, shownAt, lookedAt}
 use Rattle.queries.specs.declared.Looked.{Looked}

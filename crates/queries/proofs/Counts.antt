@@ -9,6 +9,7 @@ use native.Mathlib.Omega.{arith}
 use lib.Dec.{eqb, ltb}
 use lib.ListN.{length, take, drop, getD}
 use borrow.Author.Tests.{eqb-true, ltb-false, le-ltb}
+use Rattle.fields.specs.Options.{andThen}
 use Rattle.fields.specs.Text.{Text, between}
 use Rattle.fields.specs.Decimal.{isDigit, allDigits, leadingDigits, valueFrom, numeralOf}
 use Rattle.fields.specs.Format.{Verdict, fine, bad}
@@ -16,7 +17,6 @@ use Rattle.fields.specs.Fields.{opensIndex, digitsAbove, indexCheck}
 use Rattle.fields.specs.declared.Refusal.the-variants.{IndexTooLarge}
 use Rattle.fields.proofs.Lists.{drop-next, drop-past, part-drop}
 use Rattle.fields.proofs.Decimals.{digits-first, digits-more, numeral-digits, numeral-value}
-use Rattle.names.specs.Pieces.{andThen}
 use Rattle.names.specs.Range.{Range, lastFrom, beforeBrace, rangeAt, rangeOf}
 use Rattle.names.specs.Listing.{longestName}
 use Rattle.catalog.specs.Catalog.{Catalog}

@@ -4,10 +4,11 @@ use Prim.Native.Nat.{ℕ}
 use mathlib.Core.Path.{_≡_, refl}
 use mathlib.Core.List.{List, [], _∷_}
 use mathlib.Core.Option.{Option, none, some}
+use Rattle.fields.specs.Options.{andThen, orElse}
 use Rattle.fields.specs.Text.{Text, bytes, between, lower, lowered, same, alike}
 use Rattle.fields.specs.Decimal.{isDigit, allDigits, valueFrom, numeralOf}
 use Rattle.fields.specs.Places.{scan}
-use Rattle.names.specs.Pieces.{andThen, allOf, joined, onFirst, parts, pieces}
+use Rattle.names.specs.Pieces.{allOf, joined, onFirst, parts, pieces}
 use Rattle.names.specs.Name.{isLetter, isNameByte, nameLength, isName, dotted, indexesOf, indexKey, indexed, isInside, insideLength, bracketed, laterToken, before, following, laterTokens, allTokens, inProgram, isUndotted, programLength, startsToken, readName, listed, tokensOf}
 use Rattle.names.specs.Strip.{skipping, isKept, stripFrom, stripped}
 use Rattle.names.specs.Range.{lastFrom, beforeBrace, rangeAt, rangeOf}
@@ -16,7 +17,7 @@ use Rattle.catalog.specs.Finding.{find, any, every, holds, allows, isStruct, is
 use Rattle.catalog.specs.Nesting.{memberType, nestsOver, wholeWithin, readsWhole}
 use Rattle.catalog.specs.declared.Kind.the-variants.{Atomic, Struct}
 use Rattle.catalog.specs.declared.Aoi.the-variants.{No}
-use Rattle.nodes.specs.Lookup.{orElse, isNamed, isCalled, nodeNamed, tagOf}
+use Rattle.nodes.specs.Lookup.{isNamed, isCalled, nodeNamed, tagOf}
 use Rattle.lookup.specs.Info.{prefixLength, memberCalled, memberStep, memberOf, pathOf, infoOf, wholeSize, structSize}
 use Rattle.lookup.specs.Atomic.{atomicSize}
 use Rattle.sizes.specs.Sizes.{orValue, paddedTo, padded, indexSize, indexSizes, idSize, idOf, programSize, keySize, keySizes, requestFrom, requestSize, isAtomic, valueSize, overheadOf, overhead, replySize, isEmpty, isBits, elementsSize, rangeReply, rangeSize, sizeFrom, readSize, isLine, runs, runSize, elementSize}

@@ -11,10 +11,10 @@ use lib.Dec.{ltb}
 use lib.ListN.{length, take, drop}
 use lib.Seq.{length-take-le}
 use borrow.Author.Tests.{lt-ltb, le-ltb}
+use Rattle.fields.specs.Options.{andThen}
 use Rattle.fields.specs.Text.{Text}
 use Rattle.fields.specs.Decimal.{numeralOf}
 use Rattle.fields.proofs.Lists.{cond-elim, take-there}
-use Rattle.names.specs.Pieces.{andThen}
 use Rattle.names.specs.Range.{Range, lastFrom, beforeBrace, rangeAt, rangeOf}
 use Rattle.names.specs.Listing.{longestName}
 use Rattle.names.specs.Told.{rangeTold}

@@ -9,12 +9,13 @@ use native.Mathlib.Omega.{arith}
 use lib.Dec.{eqb}
 use lib.ListN.{length, take, drop, length-append, length-take, length-drop}
 use lib.Seq.{take-append-seam}
+use Rattle.fields.specs.Options.{andThen}
 use Rattle.fields.specs.Text.{Text}
 use Rattle.fields.specs.Decimal.{numeralOf}
 use Rattle.fields.specs.Places.{scan, part, numberTold}
 use Rattle.fields.specs.declared.Numeral.the-variants.{Value, Missing}
 use Rattle.fields.proofs.Decimals.{missing-is, value-is}
-use Rattle.names.specs.Pieces.{andThen, allOf, isNot}
+use Rattle.names.specs.Pieces.{allOf, isNot}
 use Rattle.names.specs.Name.{Token, Reading, tokens, stops, indexesOf, indexKey, laterToken, before, bracket}
 use Rattle.names.specs.Steps.{indexesIn, stepAt, readFrom}
 use Rattle.names.specs.Listing.{longestName}

@@ -8,10 +8,10 @@ use mathlib.Core.Option.{Option}
 use native.Mathlib.Omega.{arith}
 use lib.ListN.{length, take, drop}
 use borrow.Author.Tests.{le-leb}
+use Rattle.fields.specs.Options.{andThen}
 use Rattle.fields.specs.Format.{fine}
 use Rattle.fields.specs.Fields.{whole}
 use Rattle.fields.proofs.LawfulFields.{limited-max}
-use Rattle.names.specs.Pieces.{andThen}
 use Rattle.catalog.specs.Catalog.{Node, TypeDef, Catalog, catalogOf}
 use Rattle.catalog.specs.Finding.{any, every}
 use Rattle.catalog.specs.Nesting.{nestsOver, deepest, nestingVerdict}

@@ -10,13 +10,13 @@ use native.Mathlib.Numerals.{add-one}
 use lib.ListN.{length, take, drop}
 use lib.Dec.{eqb}
 use borrow.Author.Tests.{eq-eqb, ne-eqb}
+use Rattle.fields.specs.Options.{andThen}
 use Rattle.fields.specs.Text.{Text, same}
 use Rattle.fields.specs.Format.{_then_, many}
 use Rattle.fields.specs.Fields.{number, whole, limited, textOf, textPast}
 use Rattle.fields.specs.Places.{valueAt, placeAt, part}
 use Rattle.fields.specs.Writing.{answered}
 use Rattle.fields.proofs.Reading.{then-value, mapped-value, many-value-none, many-value-more, number-value}
-use Rattle.names.specs.Pieces.{andThen}
 use Rattle.catalog.specs.Catalog.{Node, TypeDef, Catalog, name, node, fromAoi, typeFields, typeDef, counts, catalogOf}
 use Rattle.catalog.specs.Finding.{find, isStruct, isTyped, typeNamed}
 use Rattle.catalog.specs.Alike.{nameAt, typesStart}

@@ -4,8 +4,8 @@ use Prim.Native.Nat.{ℕ, suc}
 use mathlib.Core.Bool.{cond}
 use mathlib.Core.List.{List, [], _∷_}
 use mathlib.Core.Option.{Option, none, some}
+use Rattle.fields.specs.Options.{andThen}
 use Rattle.fields.specs.Text.{Text}
-use Rattle.names.specs.Pieces.{andThen}
 use Rattle.catalog.specs.Catalog.{Node, TypeDef, Catalog}
 use Rattle.catalog.specs.Finding.{isStruct, isTyped}
 use Rattle.nesting.specs.Graph.{marked}
