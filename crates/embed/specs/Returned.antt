@@ -8,6 +8,8 @@ use Rattle.fields.specs.declared.Checked.{Checked}
 use Rattle.fields.specs.declared.Checked.the-variants.{Good, Refused as Faulty}
 use Rattle.fields.specs.declared.Written.{Written}
 use Rattle.fields.specs.declared.Written.the-variants.{Done, Refused}
+use Rattle.packing.specs.declared.Counted.{Counted}
+use Rattle.packing.specs.declared.Counted.the-variants.{Packets, Refused as Uncounted}
 use Rattle.queries.specs.declared.Measured.{Measured}
 use Rattle.queries.specs.declared.Measured.the-variants.{Bytes, Refused as Unmeasured}
 use Rattle.queries.specs.declared.WholeSize.{WholeSize}
@@ -30,6 +32,11 @@ returned (Refused r) = refusedAs r
 unfoldable pub checkedAs : Checked → ℕ
 checkedAs (Good n) = 0
 checkedAs (Faulty r) = refusedAs r
+
+-- a packet count
+unfoldable pub packetsAs : Counted → ℕ
+packetsAs (Packets n) = low n
+packetsAs (Uncounted r) = refusedAs r
 
 -- the bytes of a request
 unfoldable pub requestAs : Measured → ℕ

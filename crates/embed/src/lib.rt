@@ -5,6 +5,7 @@ use fields::Refusal;
 use fields::Written;
 use names::listing::list_range;
 use names::listing::tokenize;
+use packing::Counted;
 use queries::Measured;
 use queries::WholeSize;
 use queries::check_catalog;
@@ -21,8 +22,11 @@ ghost use Rattle.catalog.specs.Catalog.{catalogOf};
 ghost use Rattle.catalog.specs.Check.{catalogVerdict};
 ghost use Rattle.lookup.specs.Info.{infoOf, structSize};
 ghost use Rattle.sizes.specs.Sizes.{readSize};
+ghost use Rattle.packing.specs.Packing.{standard, packets, groupsFile};
+ghost use Rattle.packing.specs.Tables.{sizesOf, tablesVerdict};
+ghost use Rattle.packing.specs.Told.{countedOf};
 ghost use Rattle.queries.specs.Queries.{queryVerdict, measuredOf, wholeOf};
-ghost use Rattle.embed.specs.Returned.{low, refusedAs, returned, checkedAs, requestAs, replyAs, wholeAs};
+ghost use Rattle.embed.specs.Returned.{low, refusedAs, returned, checkedAs, packetsAs, requestAs, replyAs, wholeAs};
 
 // What fits into 56 bits.
 fn low_bits(n: usize) -> u64
@@ -124,5 +128,32 @@ pub extern "C" fn ruvangixo_struct_size(catalog: &[u8], name: &[u8]) -> u64
         WholeSize::Is(n) => n % 72057594037927936,
         WholeSize::Unknown => 72057594037927935,
         WholeSize::Refused(r) => refusal(r),
+    }
+}
+
+// The groups of reads of these sizes, packed in order, as a groups file. Returned: the bytes written.
+#[no_mangle]
+pub extern "C" fn ruvangixo_chunks(
+    requests: &[u64],
+    replies: &[u64],
+    budget: u16,
+    out: &mut [u8],
+) -> u64
+    ensures answer { λ r. ⌜ r ≡ returned (writing (tablesVerdict (now (requests .entry)) (now (replies .entry))) (groupsFile standard budget (sizesOf (now (requests .entry)) (now (replies .entry)))) (now (out .entry))) ⌝ }
+    ensures memory { λ r. ⌜ now (out .exit) ≡ buffer (writing (tablesVerdict (now (requests .entry)) (now (replies .entry))) (groupsFile standard budget (sizesOf (now (requests .entry)) (now (replies .entry)))) (now (out .entry))) (groupsFile standard budget (sizesOf (now (requests .entry)) (now (replies .entry)))) (now (out .entry)) ⌝ }
+{
+    let w = packing::chunk::chunks(requests, replies, budget, out);
+    encode(w)
+}
+
+// The packets of reads of these sizes, packed in order. Returned: how many.
+#[no_mangle]
+pub extern "C" fn ruvangixo_packets(requests: &[u64], replies: &[u64], budget: u16) -> u64
+    ensures { λ r. ⌜ r ≡ packetsAs (countedOf (tablesVerdict (now (requests .entry)) (now (replies .entry))) (packets standard budget (sizesOf (now (requests .entry)) (now (replies .entry))))) ⌝ }
+{
+    let v = packing::table::packets(requests, replies, budget);
+    match v {
+        Counted::Packets(n) => n % 72057594037927936,
+        Counted::Refused(r) => refusal(r),
     }
 }

@@ -6,19 +6,25 @@ use Rattle.replay.proofs.replay.Statement.{statement}
 use Rattle.replay.proofs.replay.Tie as tie
 
 abbrev Inv-loop : tie.InvT-loop
-Inv-loop call s tally₀ at₀ tally at = Unit {0}
+Inv-loop call s inputs tally₀ at₀ tally at = Unit {0}
 
 abbrev μ-loop : tie.MeasureT-loop
-μ-loop call s tally₀ at₀ tally at = length s - at
+μ-loop call s inputs tally₀ at₀ tally at = length s - at
+
+input-count-requires : tie.Need-input-count-requires Inv-loop μ-loop
+input-count-requires c κs = search needs
 
 loop-holds : tie.Need-loop-holds Inv-loop μ-loop
 loop-holds c = tt
 
-catalog-field-requires : tie.Need-catalog-field-requires Inv-loop μ-loop
-catalog-field-requires c κs = search needs
-
 field-requires : tie.Need-field-requires Inv-loop μ-loop
 field-requires c κs = search needs
+
+input-requires : tie.Need-input-requires Inv-loop μ-loop
+input-requires c κs = search needs
+
+input-requires-2 : tie.Need-input-requires-2 Inv-loop μ-loop
+input-requires-2 c κs = search needs
 
 field-requires-2 : tie.Need-field-requires-2 Inv-loop μ-loop
 field-requires-2 c κs = search needs
@@ -50,6 +56,15 @@ part-agrees-start-3 c = search needs
 part-agrees-end-3 : tie.Need-part-agrees-end-3 Inv-loop μ-loop
 part-agrees-end-3 c = search needs
 
+sub-agrees-4 : tie.Need-sub-agrees-4 Inv-loop μ-loop
+sub-agrees-4 c = search needs
+
+part-agrees-start-4 : tie.Need-part-agrees-start-4 Inv-loop μ-loop
+part-agrees-start-4 c = search needs
+
+part-agrees-end-4 : tie.Need-part-agrees-end-4 Inv-loop μ-loop
+part-agrees-end-4 c = search needs
+
 agrees-requires : tie.Need-agrees-requires Inv-loop μ-loop
 agrees-requires c κs = search needs
 
@@ -74,9 +89,11 @@ replay-spec =
     (tie.spec
     Inv-loop
     μ-loop
+    input-count-requires
     loop-holds
-    catalog-field-requires
     field-requires
+    input-requires
+    input-requires-2
     field-requires-2
     sub-agrees
     part-agrees-start
@@ -87,6 +104,9 @@ replay-spec =
     sub-agrees-3
     part-agrees-start-3
     part-agrees-end-3
+    sub-agrees-4
+    part-agrees-start-4
+    part-agrees-end-4
     agrees-requires
     counted-requires
     returns

@@ -1,0 +1,5 @@
+pub mod Access
+pub mod Examples
+pub mod Places
+pub mod Round
+pub mod Steps

@@ -1,0 +1,16 @@
+pub mod Steps
+pub mod Sizing
+pub mod Checking
+pub mod Counting
+pub mod Grouping
+pub mod Laying
+pub mod Placing
+pub mod Filing
+pub mod Serving
+pub mod Holding
+pub mod Budgets
+pub mod Totals
+pub mod Fitting
+pub mod Running
+pub mod Growing
+pub mod Examples

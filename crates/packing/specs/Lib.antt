@@ -1,0 +1,4 @@
+pub mod Packing
+pub mod Tables
+pub mod Told
+pub mod Facts

@@ -1,0 +1,6 @@
+pub mod Access
+pub mod Examples
+pub mod Places
+pub mod Round
+pub mod Steps
+pub mod Writes

@@ -1,0 +1,90 @@
+-- The end of a field is told by the ends of its parts, here for the fields of a plan file.
+-- Counts, flags, key bytes and lengths are met as the readers of numbers and texts answer them.
+-- Assumes nothing.
+use Prim.Native.Nat.{ℕ, zero, suc, _+_, _-_, _^_, _≤_, _<_}
+use mathlib.Core.Path.{_≡_, refl, sym, ap, ap₂, _∙_}
+use mathlib.Core.List.{List}
+use native.Mathlib.Omega.{arith}
+use lib.ListN.{length, take, drop}
+use Rattle.fields.specs.Format.{Format, _then_, among, many, held, flagOf}
+use Rattle.fields.specs.Fields.{number, choice, whole, limited, textPast, text, indexedText, counted, optional}
+use Rattle.fields.specs.Places.{placeAt}
+use Rattle.fields.proofs.Lawful.{Lawful}
+use Rattle.fields.proofs.LawfulFields.{lawful-number}
+use Rattle.fields.proofs.Reading.{then-place, leading-place, mapped-place, many-place-more, held-place-none, held-place-some, number-value, number-place, choice-value, choice-place, text-place, indexed-text-place}
+use Rattle.plans.specs.Plans.{stepByte, afterByte, step, steps, member, members, read}
+use Rattle.plans.proofs.Round.{lawful-kind, lawful-tag, lawful-name}
+use Rattle.plans.proofs.Steps.{lawful-flag}
+
+-- ---- fields of any format
+module _ {A : Type 0} (f : Format A) (s : List ℕ) (i n p : ℕ) where
+  -- a count was read, and what it counts starts at `p`
+  module _ (w max : ℕ) (m : max < 256 ^ w) (e : n ≡ limited max (whole w (take w (drop i s)))) (g : p ≡ i + length (take w (drop i s))) where
+    pub counted-place : placeAt (counted w max f) s i ≡ placeAt (many f n) s p
+    unfolding counted
+    counted-place =
+        leading-place (number w max) length (many f) s i (lawful-number w max m)
+        ∙ sym (ap₂ (λ x y. placeAt (many f x) s y) (e ∙ sym (number-value s i max w)) (g ∙ sym (number-place s i max w)))
+
+  -- a flag was read, and what it announces starts at `p`
+  module _ (e : n ≡ limited 1 (whole 1 (take 1 (drop i s)))) (g : p ≡ i + length (take 1 (drop i s))) where
+    optional-place : placeAt (optional f) s i ≡ placeAt (held f n) s p
+    unfolding optional
+    optional-place =
+        leading-place (choice 1) flagOf (held f) s i lawful-flag
+        ∙ sym (ap₂ (λ x y. placeAt (held f x) s y) (e ∙ sym (choice-value s i 1)) (g ∙ sym (choice-place s i 1)))
+
+    pub optional-past-none : n ≤ 0 → p ≡ placeAt (optional f) s i
+    optional-past-none h = sym (held-place-none f s p n h) ∙ sym optional-place
+
+    pub optional-past-some : (r : ℕ) → 0 < n → r ≡ placeAt f s p → r ≡ placeAt (optional f) s i
+    optional-past-some r h q = q ∙ sym (held-place-some f s p n h) ∙ sym optional-place
+
+  -- one of `n` fields at `i` was passed
+  pub many-place-step : Lawful f → 0 < n → p ≡ placeAt f s i → placeAt (many f n) s i ≡ placeAt (many f (n - 1)) s p
+  many-place-step F h e = many-place-more f s i n F h ∙ ap (placeAt (many f (n - 1)) s) (sym e)
+
+-- ---- keys
+module _ (s : List ℕ) (p r : ℕ) where
+  after-text-past : (n : ℕ) → n ≡ 0 → r ≡ textPast (drop p s) p → r ≡ placeAt (afterByte n) s p
+  unfolding afterByte among placeAt
+  after-text-past zero h e = e ∙ sym (text-place s p 128)
+  after-text-past (suc n) h e = absurd (omega arith)
+
+  after-number-past : (n : ℕ) → (n ≡ 0 → ⊥) → r ≡ p + length (take 4 (drop p s)) → r ≡ placeAt (afterByte n) s p
+  unfolding afterByte among placeAt
+  after-number-past zero h e = absurd (h refl)
+  after-number-past (suc zero) h e = e ∙ sym (number-place s p 4294967295 4)
+  after-number-past (suc (suc n)) h e = e ∙ sym (number-place s p 4294967295 4)
+
+-- the key byte is `n`, and what follows it starts at `p` and ends at `r`
+module _ (s : List ℕ) (i n p r : ℕ) (e : n ≡ limited 2 (whole 1 (take 1 (drop i s)))) (g : p ≡ i + length (take 1 (drop i s))) where
+  step-place : placeAt step s i ≡ placeAt (afterByte n) s p
+  unfolding step
+  step-place =
+      leading-place (choice 2) stepByte afterByte s i lawful-kind
+      ∙ sym (ap₂ (λ x y. placeAt (afterByte x) s y) (e ∙ sym (choice-value s i 2)) (g ∙ sym (choice-place s i 2)))
+
+  pub step-text-past : n ≡ 0 → r ≡ textPast (drop p s) p → r ≡ placeAt step s i
+  step-text-past h q = after-text-past s p r n h q ∙ sym step-place
+
+  pub step-number-past : (n ≡ 0 → ⊥) → r ≡ p + length (take 4 (drop p s)) → r ≡ placeAt step s i
+  step-number-past h q = after-number-past s p r n h q ∙ sym step-place
+
+-- ---- members and reads: the text at the front ends at `p`
+module _ (s : List ℕ) (i p r : ℕ) (e : p ≡ textPast (drop i s) i) where
+  pub member-past : r ≡ placeAt (optional steps) s p → r ≡ placeAt member s i
+  unfolding member
+  member-past q =
+      sym (mapped-place _ _ (text 128 then optional steps) s i
+      ∙ then-place (text 128) (optional steps) s i lawful-tag
+      ∙ ap (placeAt (optional steps) s) (text-place s i 128 ∙ sym e)
+      ∙ sym q)
+
+  pub read-past : r ≡ placeAt members s p → r ≡ placeAt read s i
+  unfolding read
+  read-past q =
+      sym (mapped-place _ _ (indexedText 136 1000001 then members) s i
+      ∙ then-place (indexedText 136 1000001) members s i lawful-name
+      ∙ ap (placeAt members s) (indexed-text-place s i 136 1000001 ∙ sym e)
+      ∙ sym q)
