@@ -17,7 +17,7 @@ pub record Lawful {A : Type 0} (f : Format A) : Type 0 where
   -- bytes that are accepted are the layout of the value read from them
   pub kept : (l : List ℕ) (i : ℕ) → Bytes l → f .read l i .verdict ≡ fine → f .lay (f .read l i .value) ++ f .read l i .rest ≡ l
   -- and that value is within the limits
-  pub limits : (l : List ℕ) (i : ℕ) → f .read l i .verdict ≡ fine → f .within (f .read l i .value)
+  pub limits : (l : List ℕ) (i : ℕ) → Bytes l → f .read l i .verdict ≡ fine → f .within (f .read l i .value)
   -- a value within the limits is accepted where it is laid out, and reads back
   pub back : (a : A) → f .within a → (r : List ℕ) (i : ℕ) → f .read (f .lay a ++ r) i ≡ given a r (i + length (f .lay a))
 
@@ -43,10 +43,10 @@ _and_ {f} {g} F G = record {
       append-assoc (f .lay (a .value)) (g .lay (c .value)) (c .rest)
       ∙ ap (λ x. f .lay (a .value) ++ x) (G .kept (a .rest) (a .place) (bytes-after (f .lay (a .value)) (a .rest) l k b) (v .1))
       ∙ k;
-  limits = λ l i e.
+  limits = λ l i b e.
       let a = f .read l i in
       let v = first-fine (a .verdict) (g .read (a .rest) (a .place) .verdict) e in
-      (F .limits l i (v .0), G .limits (a .rest) (a .place) (v .1));
+      (F .limits l i b (v .0), G .limits (a .rest) (a .place) (bytes-after (f .lay (a .value)) (a .rest) l (F .kept l i b (v .0)) b) (v .1));
   back = λ p w r i.
       rw (
         append-assoc (f .lay (p .0)) (g .lay (p .1)) r,
@@ -67,18 +67,19 @@ lawful-leading f key g F G tells = record {
       let c = g (a .value) .read (a .rest) (a .place) in
       let v = first-fine (a .verdict) (c .verdict) e in
       let k = F .kept l i b (v .0) in
-      let t : key (c .value) ≡ a .value = tells (a .value) (F .limits l i (v .0)) (a .rest) (a .place) in
+      let t : key (c .value) ≡ a .value = tells (a .value) (F .limits l i b (v .0)) (a .rest) (a .place) in
       ap (λ x. (f .lay x ++ g x .lay (c .value)) ++ c .rest) t
       ∙ append-assoc (f .lay (a .value)) (g (a .value) .lay (c .value)) (c .rest)
       ∙ ap (λ x. f .lay (a .value) ++ x) (G (a .value) .kept (a .rest) (a .place) (bytes-after (f .lay (a .value)) (a .rest) l k b) (v .1))
       ∙ k;
-  limits = λ l i e.
+  limits = λ l i b e.
       let a = f .read l i in
       let c = g (a .value) .read (a .rest) (a .place) in
       let v = first-fine (a .verdict) (c .verdict) e in
-      let w = F .limits l i (v .0) in
+      let w = F .limits l i b (v .0) in
+      let r = bytes-after (f .lay (a .value)) (a .rest) l (F .kept l i b (v .0)) b in
       let t : key (c .value) ≡ a .value = tells (a .value) w (a .rest) (a .place) in
-      subst (λ x. f .within x × g x .within (c .value)) (sym t) (w, G (a .value) .limits (a .rest) (a .place) (v .1));
+      subst (λ x. f .within x × g x .within (c .value)) (sym t) (w, G (a .value) .limits (a .rest) (a .place) r (v .1));
   back = λ p w r i.
       rw (
         append-assoc (f .lay (key p)) (g (key p) .lay p) r,
@@ -94,8 +95,8 @@ pub lawful-mapped : {A B : Type 0} (to : A → B) (from : B → A) (f : Format A
 unfolding mapped given
 lawful-mapped to from f F there again = record {
   along = F .along;
-  kept = λ l i b e. ap (λ x. f .lay x ++ f .read l i .rest) (there (f .read l i .value) (F .limits l i e)) ∙ F .kept l i b e;
-  limits = λ l i e. let w = F .limits l i e in subst (f .within) (sym (there (f .read l i .value) w)) w;
+  kept = λ l i b e. ap (λ x. f .lay x ++ f .read l i .rest) (there (f .read l i .value) (F .limits l i b e)) ∙ F .kept l i b e;
+  limits = λ l i b e. let w = F .limits l i b e in subst (f .within) (sym (there (f .read l i .value) w)) w;
   back = λ a w r i. rw (F .back (from a) w r i, again a);
 }
 
@@ -124,13 +125,13 @@ module _ {A : Type 0} (f : Format A) (F : Lawful f) where
   many-length zero l i = refl
   many-length (suc n) l i = ap suc (many-length n (f .read l i .rest) (f .read l i .place))
 
-  many-limits : (n : ℕ) (l : List ℕ) (i : ℕ) → manyRead f n l i .verdict ≡ fine → All (f .within) (manyRead f n l i .value)
+  many-limits : (n : ℕ) (l : List ℕ) (i : ℕ) → Bytes l → manyRead f n l i .verdict ≡ fine → All (f .within) (manyRead f n l i .value)
   unfolding manyRead onward joined given
-  many-limits zero l i e = tt
-  many-limits (suc n) l i e =
+  many-limits zero l i b e = tt
+  many-limits (suc n) l i b e =
       let a = f .read l i in
       let v = first-fine (a .verdict) (manyRead f n (a .rest) (a .place) .verdict) e in
-      (F .limits l i (v .0), many-limits n (a .rest) (a .place) (v .1))
+      (F .limits l i b (v .0), many-limits n (a .rest) (a .place) (bytes-after (f .lay (a .value)) (a .rest) l (F .kept l i b (v .0)) b) (v .1))
 
   many-back : (xs : List A) → All (f .within) xs → (r : List ℕ) (i : ℕ) → manyRead f (length xs) (manyLay f xs ++ r) i ≡ given xs r (i + length (manyLay f xs))
   unfolding manyRead manyLay onward joined given first
@@ -148,7 +149,7 @@ module _ {A : Type 0} (f : Format A) (F : Lawful f) where
   lawful-many n = record {
     along = many-along n;
     kept = many-kept n;
-    limits = λ l i e. (many-length n l i, many-limits n l i e);
+    limits = λ l i b e. (many-length n l i, many-limits n l i b e);
     back = λ xs w r i. subst (λ m. manyRead f m (manyLay f xs ++ r) i ≡ given xs r (i + length (manyLay f xs))) (w .0) (many-back xs (w .1) r i);
   }
 
@@ -163,10 +164,10 @@ module _ {A : Type 0} (f : Format A) (F : Lawful f) where
   held-kept zero l i b e = refl
   held-kept (suc n) l i b e = F .kept l i b e
 
-  held-limits : (n : ℕ) (l : List ℕ) (i : ℕ) → heldRead f n l i .verdict ≡ fine → heldWithin f n (heldRead f n l i .value)
+  held-limits : (n : ℕ) (l : List ℕ) (i : ℕ) → Bytes l → heldRead f n l i .verdict ≡ fine → heldWithin f n (heldRead f n l i .value)
   unfolding heldRead mapped given
-  held-limits zero l i e = refl
-  held-limits (suc n) l i e = (omega arith, F .limits l i e)
+  held-limits zero l i b e = refl
+  held-limits (suc n) l i b e = (omega arith, F .limits l i b e)
 
   held-back : (n : ℕ) (o : Option A) → heldWithin f n o → (r : List ℕ) (i : ℕ) → heldRead f n (heldLay f o ++ r) i ≡ given o r (i + length (heldLay f o))
   unfolding heldRead heldLay mapped given
@@ -192,6 +193,6 @@ module _ {A B : Type 0} (to : A → B) (from : B → Option A) (f : Format A) (F
   lawful-among = record {
     along = F .along;
     kept = λ l i b e. ap (λ x. heldLay f x ++ f .read l i .rest) (there (f .read l i .value)) ∙ F .kept l i b e;
-    limits = λ l i e. subst (heldWithin f 1) (sym (there (f .read l i .value))) (omega arith, F .limits l i e);
+    limits = λ l i b e. subst (heldWithin f 1) (sym (there (f .read l i .value))) (omega arith, F .limits l i b e);
     back = λ b w r i. among-back b (from b) refl w r i;
   }

@@ -58,7 +58,7 @@ lawful-numeric w over max fits = record {
       let n : length (take w l) ≡ w = (let m = length-take w l in omega arith) in
       rw (limited-within max (whole w (take w l)) (h .1), whole-is w (take w l) (h .0))
       (ap (λ x. x ++ drop w l) (subst (λ x. digits x (spelled (take w l)) ≡ take w l) n (digits-spelled (take w l) (bytes-take w l b))) ∙ take-append-drop w l);
-  limits = λ l i e. limited-max max (whole w (take w l));
+  limits = λ l i b e. limited-max max (whole w (take w l));
   back = λ n m r i.
       let d = length-digits w n in
       let q : whole w (digits w n) ≡ n = whole-is w (digits w n) (omega arith) ∙ spelled-digits w n (omega arith) in
@@ -138,7 +138,7 @@ unfolding text textOf textRest textPast textVerdict given
 lawful-text max = record {
   along = λ s i. text-along (drop i s) s i refl;
   kept = λ l i b e. text-kept max l i e;
-  limits = text-limits max;
+  limits = λ l i b e. text-limits max l i e;
   back = λ t w r i.
       let z : i + 1 + length t ≡ i + suc (length t) = omega arith in
       rw (take-append-seam t r, drop-append-seam t r, text-fine max t i (w .0) (w .1), z);
@@ -161,7 +161,7 @@ unfolding indexedText textOf textRest textPast textVerdict given first
 lawful-indexed-text max most = record {
   along = λ s i. text-along (drop i s) s i refl;
   kept = λ l i b e. text-kept max l i (first-fine (textVerdict max l i) (indexCheck most (textOf l) (i + 1)) e .0);
-  limits = λ l i e.
+  limits = λ l i b e.
       let v = first-fine (textVerdict max l i) (indexCheck most (textOf l) (i + 1)) e in
       let k = text-limits max l i (v .0) in
       (k .0, k .1, index-anywhere most (textOf l) (i + 1) 0 (v .1));

@@ -50,9 +50,10 @@ module _ {A : Type 0} (most : ℕ) (f : Format A) (F : Lawful f) where
       let o = first-fine (openingCheck most s) (fieldsCheck a) e in
       let h = opening-fine most s (o .0) in
       let u = first-fine (a .verdict) (endingCheck (a .rest) (a .place)) (o .1) in
-      let k = F .kept (drop 1 s) 1 (bytes-after (1 ∷ []) (drop 1 s) s (sym (h .1)) b) (u .0) in
+      let r = bytes-after (1 ∷ []) (drop 1 s) s (sym (h .1)) b in
+      let k = F .kept (drop 1 s) 1 r (u .0) in
       let k′ = rw (ending-fine (a .rest) (a .place) (u .1)) at k in
-      (ap (λ x. 1 ∷ x) (sym (append-nil (f .lay (a .value))) ∙ k′) ∙ sym (h .1), F .limits (drop 1 s) 1 (u .0), h .0)
+      (ap (λ x. 1 ∷ x) (sym (append-nil (f .lay (a .value))) ∙ k′) ∙ sym (h .1), F .limits (drop 1 s) 1 r (u .0), h .0)
 
   pub accepts : (a : A) → f .within a → length (fileLay f a) ≤ most → (fileCheck most f (fileLay f a) ≡ fine) × (fileOf f (fileLay f a) ≡ a)
   unfolding fileCheck fileLay fileOf openingCheck fieldsCheck endingCheck given first
