@@ -11,7 +11,7 @@ use lib.ListN.{length, getD, set, length-set, replicate}
 use lib.Seq.{getD-set-same, getD-set-other}
 use lib.Dec.{eqb}
 use borrow.Author.Tests.{eqb-true, eqb-false}
-use Rattle.fields.proofs.Rows.{places-none, places-more}
+use Rattle.fields.proofs.Rows.{places-none, places-more, many-place-step}
 use Rattle.fields.specs.Text.{Text, alike}
 use Rattle.fields.specs.Format.{many}
 use Rattle.fields.specs.Places.{told, placeAt, placesFrom}
@@ -23,7 +23,6 @@ use Rattle.catalog.specs.Catalog.{node}
 use Rattle.catalog.specs.Finding.{any}
 use Rattle.catalog.specs.Alike.{nameAt, firstAlike}
 use Rattle.catalog.proofs.Round.{lawful-node}
-use Rattle.nodes.proofs.Places.{many-place-step}
 use Rattle.alike.specs.Buckets.{bucketOf, alikeAt, namesBefore, Chained, here, on, Links, Searched}
 use Rattle.alike.proofs.Buckets.{alike-bucket}
 

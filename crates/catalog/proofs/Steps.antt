@@ -48,14 +48,3 @@ module _ (s : List ℕ) (i : ℕ) where
       ap₂ (λ a b. (a, b)) (e ∙ sym (number-value s i 1024 2))
       (h ∙ sym (number-value s p 128 2) ∙ ap (valueAt (number 2 128) s) (q ∙ sym (number-place s i 1024 2)))
       ∙ sym (then-value (number 2 1024) (number 2 128) s i lawful-tag-count)
-
--- ---- `n` fields in a row from `from` on, of which `k` are left at `at`
-module _ {A : Type 0} (f : Format A) (s : List ℕ) (from n at k : ℕ) (left : checkAt (many f k) s at ≡ checkAt (many f n) s from) where
-  pub row-end : k ≤ 0 → Good at ≡ checkAt (many f n) s from
-  row-end h = sym (many-none f s at k h) ∙ left
-
-  pub row-bad : (r : Refusal) → 0 < k → checkAt f s at ≡ Refused r → Refused r ≡ checkAt (many f n) s from
-  row-bad r h e = sym (many-bad f s at k r h e) ∙ left
-
-  pub row-more : (p : ℕ) → Lawful f → 0 < k → checkAt f s at ≡ Good p → checkAt (many f (k - 1)) s p ≡ checkAt (many f n) s from
-  row-more p F h e = sym (many-more f s at k p F h e) ∙ left

@@ -16,17 +16,13 @@ use Rattle.fields.specs.declared.Part.{Part}
 use Rattle.fields.proofs.Lawful.{Lawful}
 use Rattle.fields.proofs.LawfulFields.{lawful-number, lawful-text}
 use Rattle.fields.proofs.Reading.{then-value, leading-value, leading-place, many-place-none, many-place-more, number-value, number-place, text-place, indexed-text-place}
-use Rattle.fields.proofs.Rows.{values-length}
+use Rattle.fields.proofs.Rows.{values-length, counted-place}
 use Rattle.lists.specs.Lists.{tag, tags, together, noGroup, fromTogether, names, listFields, tagList, listOf}
 use Rattle.lists.specs.Access.{budgetPlace, noGroupPlace, togetherPlace, tagsPlace, nthPart}
 use Rattle.lists.proofs.Round.{lawful-whole-max, lawful-budget, lawful-tag, lawful-no-group, lawful-together}
 
 -- ---- fields of any format
 module _ {A : Type 0} (f : Format A) (s : List ℕ) where
-  -- one of `n` fields at `i` was passed
-  pub many-place-step : (i n p : ℕ) → Lawful f → 0 < n → p ≡ placeAt f s i → placeAt (many f n) s i ≡ placeAt (many f (n - 1)) s p
-  many-place-step i n p F h e = many-place-more f s i n F h ∙ ap (placeAt (many f (n - 1)) s) (sym e)
-
   -- the field at position `n` stands where `n` fields end
   pub nth-place : Lawful f → (c n i : ℕ) → n < c → getD (placesFrom f c s i) n 0 ≡ placeAt (many f n) s i
   unfolding placesFrom
@@ -43,13 +39,6 @@ module _ {A : Type 0} (f : Format A) (s : List ℕ) where
     counted-length F =
         ap length (leading-value (number w max) length (many f) s i (lawful-number w max m))
         ∙ values-length f s F (valueAt (number w max) s i) (placeAt (number w max) s i)
-
-    -- a count `n` was read, and what it counts starts at `p`
-    pub counted-place : (n p : ℕ) → n ≡ limited max (whole w (take w (drop i s))) → p ≡ i + length (take w (drop i s)) → placeAt (counted w max f) s i ≡ placeAt (many f n) s p
-    unfolding counted
-    counted-place n p e g =
-        leading-place (number w max) length (many f) s i (lawful-number w max m)
-        ∙ sym (ap₂ (λ x y. placeAt (many f x) s y) (e ∙ sym (number-value s i max w)) (g ∙ sym (number-place s i max w)))
 
 -- ---- texts end where their length says, whatever else is asked of them
 module _ (f g : Format Text) (s : List ℕ) (F : Lawful f) (G : Lawful g) (alike : (i : ℕ) → placeAt f s i ≡ placeAt g s i) where
@@ -105,11 +94,11 @@ module _ (s : List ℕ) where
     unfolding togetherPlace
     together-place e h =
         k ∙ row-place (text 128) (text 136) s (lawful-text 128) (lawful-text 136) (text-alike s 128 136) n p
-        ∙ sym (counted-place (text 136) s 2 256 at (omega arith) n p h g) ∙ ap (placeAt noGroup s) e
+        ∙ sym (counted-place (text 136) s at n p 2 256 (omega arith) h g) ∙ ap (placeAt noGroup s) e
 
     pub tags-place : at ≡ togetherPlace s → n ≡ limited 64 (whole 2 (take 2 (drop at s))) → r ≡ tagsPlace s
     unfolding tagsPlace
-    tags-place e h = k ∙ sym (counted-place (text 128) s 2 64 at (omega arith) n p h g) ∙ ap (placeAt together s) e
+    tags-place e h = k ∙ sym (counted-place (text 128) s at n p 2 64 (omega arith) h g) ∙ ap (placeAt together s) e
 
 -- ---- the fields of the list that a file spells
 module _ (s : List ℕ) where

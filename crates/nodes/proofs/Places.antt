@@ -12,43 +12,10 @@ use Rattle.fields.specs.Places.{valueAt, placeAt}
 use Rattle.fields.proofs.Lawful.{Lawful}
 use Rattle.fields.proofs.LawfulFields.{lawful-number, lawful-choice}
 use Rattle.fields.proofs.Reading.{then-value, then-place, leading-value, leading-place, mapped-place, many-place-more, held-place-none, held-place-some, number-value, number-place, choice-value, choice-place, text-place}
+use Rattle.fields.proofs.Rows.{counted-place, optional-place}
 use Rattle.catalog.specs.Catalog.{kindOf, kindByte, aoiOf, aoiByte, name, kind, aoi, dims, id, size, fromId, fromKind, nodeFields, node, members, fromAoi, typeFields, typeDef, counts}
 use Rattle.catalog.specs.Alike.{typesStart, membersCount}
 use Rattle.catalog.proofs.Round.{lawful-name, lawful-kind, lawful-aoi, lawful-dims, lawful-id, lawful-type-size}
-
--- ---- fields of any format
-module _ {A : Type 0} (f : Format A) (s : List ℕ) (i n p : ℕ) where
-  -- a count was read, and what it counts starts at `p`
-  module _ (w max : ℕ) (m : max < 256 ^ w) (e : n ≡ limited max (whole w (take w (drop i s)))) (g : p ≡ i + length (take w (drop i s))) where
-    pub counted-value : valueAt (counted w max f) s i ≡ valueAt (many f n) s p
-    unfolding counted
-    counted-value =
-        leading-value (number w max) length (many f) s i (lawful-number w max m)
-        ∙ sym (ap₂ (λ x y. valueAt (many f x) s y) (e ∙ sym (number-value s i max w)) (g ∙ sym (number-place s i max w)))
-
-    pub counted-place : placeAt (counted w max f) s i ≡ placeAt (many f n) s p
-    unfolding counted
-    counted-place =
-        leading-place (number w max) length (many f) s i (lawful-number w max m)
-        ∙ sym (ap₂ (λ x y. placeAt (many f x) s y) (e ∙ sym (number-value s i max w)) (g ∙ sym (number-place s i max w)))
-
-  -- a flag was read, and what it announces starts at `p`
-  module _ (e : n ≡ limited 1 (whole 1 (take 1 (drop i s)))) (g : p ≡ i + length (take 1 (drop i s))) where
-    pub optional-value : valueAt (optional f) s i ≡ valueAt (held f n) s p
-    unfolding optional
-    optional-value =
-        leading-value (choice 1) flagOf (held f) s i (lawful-choice 1 (omega arith))
-        ∙ sym (ap₂ (λ x y. valueAt (held f x) s y) (e ∙ sym (choice-value s i 1)) (g ∙ sym (choice-place s i 1)))
-
-    pub optional-place : placeAt (optional f) s i ≡ placeAt (held f n) s p
-    unfolding optional
-    optional-place =
-        leading-place (choice 1) flagOf (held f) s i (lawful-choice 1 (omega arith))
-        ∙ sym (ap₂ (λ x y. placeAt (held f x) s y) (e ∙ sym (choice-value s i 1)) (g ∙ sym (choice-place s i 1)))
-
-  -- one of `n` fields at `i` was passed
-  pub many-place-step : Lawful f → 0 < n → p ≡ placeAt f s i → placeAt (many f n) s i ≡ placeAt (many f (n - 1)) s p
-  many-place-step F h e = many-place-more f s i n F h ∙ ap (placeAt (many f (n - 1)) s) (sym e)
 
 -- ---- single fields
 -- a dimension of a node

@@ -16,10 +16,10 @@ use Rattle.fields.proofs.Lawful.{Lawful, lawful-many, many-length}
 use Rattle.fields.proofs.Reading.{then-value, leading-value, mapped-value, many-value-more, text-value, number-value, choice-value}
 use Rattle.catalog.specs.Catalog.{Node, TypeDef, kindOf, kindByte, aoiOf, aoiByte, name, kind, aoi, dims, fromId, fromKind, nodeFields, node, members, fromAoi, typeFields, typeDef, counts, countsOf, tagsAndTypes, catalog, catalogOf}
 use Rattle.catalog.specs.Finding.{isStruct, isParts, isTyped}
-use Rattle.fields.proofs.Rows.{values-from, values-length, places-length}
+use Rattle.fields.proofs.Rows.{values-from, values-length, places-length, counted-value}
 use Rattle.catalog.specs.Alike.{nameAt, typesStart, typePlaces, membersCount}
 use Rattle.catalog.proofs.Round.{lawful-name, lawful-kind, lawful-type-size, lawful-aoi, lawful-node, lawful-type, lawful-counts}
-use Rattle.nodes.proofs.Places.{counted-value, number-past, name-past}
+use Rattle.nodes.proofs.Places.{number-past, name-past}
 
 -- ---- the types of a file
 pub types-are : (s : List ℕ) → catalogOf s .types ≡ valueAt (many typeDef (valueAt counts s 1 .1)) s (typesStart s)

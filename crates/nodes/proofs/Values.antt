@@ -9,6 +9,7 @@ use native.Mathlib.Omega.{arith}
 use native.Mathlib.Numerals.{add-one}
 use lib.ListN.{length, take, drop, set, length-set, take-append-drop}
 use lib.Seq.{take-suc-set, drop-set-lt, drop-drop, length-take-le, take-append-seam}
+use Rattle.fields.proofs.Rows.{counted-value, counted-place, optional-value, many-place-step}
 use Rattle.fields.specs.Format.{_then_, many}
 use Rattle.fields.specs.Fields.{number, choice, whole, limited, textOf, textPast, optional}
 use Rattle.fields.specs.Places.{valueAt, placeAt, textPart}
@@ -24,7 +25,7 @@ use Rattle.nodes.specs.Reading.{textIn, maybeOf, nodeIn, maybeTold, thre
 use Rattle.nodes.specs.declared.Maybe.{Maybe}
 use Rattle.nodes.specs.declared.Maybe.the-variants.{Missing, Is}
 use Rattle.nodes.specs.declared.Node.{Node as Read}
-use Rattle.nodes.proofs.Places.{dim, counted-value, counted-place, optional-value, many-place-step, number-past, name-past, kind-past}
+use Rattle.nodes.proofs.Places.{dim, number-past, name-past, kind-past}
 
 -- ---- kinds
 module _ (s : List ℕ) (at n : ℕ) (e : n ≡ limited 2 (whole 1 (take 1 (drop at s)))) where

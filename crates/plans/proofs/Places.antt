@@ -16,34 +16,6 @@ use Rattle.plans.specs.Plans.{stepByte, afterByte, step, steps, member, 
 use Rattle.plans.proofs.Round.{lawful-kind, lawful-tag, lawful-name}
 use Rattle.plans.proofs.Steps.{lawful-flag}
 
--- ---- fields of any format
-module _ {A : Type 0} (f : Format A) (s : List ℕ) (i n p : ℕ) where
-  -- a count was read, and what it counts starts at `p`
-  module _ (w max : ℕ) (m : max < 256 ^ w) (e : n ≡ limited max (whole w (take w (drop i s)))) (g : p ≡ i + length (take w (drop i s))) where
-    pub counted-place : placeAt (counted w max f) s i ≡ placeAt (many f n) s p
-    unfolding counted
-    counted-place =
-        leading-place (number w max) length (many f) s i (lawful-number w max m)
-        ∙ sym (ap₂ (λ x y. placeAt (many f x) s y) (e ∙ sym (number-value s i max w)) (g ∙ sym (number-place s i max w)))
-
-  -- a flag was read, and what it announces starts at `p`
-  module _ (e : n ≡ limited 1 (whole 1 (take 1 (drop i s)))) (g : p ≡ i + length (take 1 (drop i s))) where
-    optional-place : placeAt (optional f) s i ≡ placeAt (held f n) s p
-    unfolding optional
-    optional-place =
-        leading-place (choice 1) flagOf (held f) s i lawful-flag
-        ∙ sym (ap₂ (λ x y. placeAt (held f x) s y) (e ∙ sym (choice-value s i 1)) (g ∙ sym (choice-place s i 1)))
-
-    pub optional-past-none : n ≤ 0 → p ≡ placeAt (optional f) s i
-    optional-past-none h = sym (held-place-none f s p n h) ∙ sym optional-place
-
-    pub optional-past-some : (r : ℕ) → 0 < n → r ≡ placeAt f s p → r ≡ placeAt (optional f) s i
-    optional-past-some r h q = q ∙ sym (held-place-some f s p n h) ∙ sym optional-place
-
-  -- one of `n` fields at `i` was passed
-  pub many-place-step : Lawful f → 0 < n → p ≡ placeAt f s i → placeAt (many f n) s i ≡ placeAt (many f (n - 1)) s p
-  many-place-step F h e = many-place-more f s i n F h ∙ ap (placeAt (many f (n - 1)) s) (sym e)
-
 -- ---- keys
 module _ (s : List ℕ) (p r : ℕ) where
   after-text-past : (n : ℕ) → n ≡ 0 → r ≡ textPast (drop p s) p → r ≡ placeAt (afterByte n) s p

@@ -1,11 +1,11 @@
 -- The loop keeps that what is left of the row gives what the whole row gives; the laws on rows in Steps turn it.
 use mathlib.Core.Path.{_≡_, refl, sym, _∙_}
 use borrow.Author.Needs.{needs}
+use Rattle.fields.proofs.Rows.{row-end, row-bad, row-more}
 use Rattle.fields.specs.Fields.{number}
 use Rattle.fields.specs.Format.{many}
 use Rattle.fields.specs.Places.{checkAt}
 use Rattle.catalog.proofs.Round.{lawful-dim}
-use Rattle.catalog.proofs.Steps.{row-end, row-bad, row-more}
 use Rattle.catalog.proofs.check.check_dim_list.Statement.{statement}
 use Rattle.catalog.proofs.check.check_dim_list.Tie as tie
 

@@ -1,11 +1,11 @@
 -- The loop keeps that the nodes still to check give what all of them give; the laws on rows in Steps turn it.
 use mathlib.Core.Path.{_≡_, refl, sym, _∙_}
 use borrow.Author.Needs.{needs}
+use Rattle.fields.proofs.Rows.{row-end, row-bad, row-more}
 use Rattle.fields.specs.Format.{many}
 use Rattle.fields.specs.Places.{checkAt}
 use Rattle.catalog.specs.Catalog.{node}
 use Rattle.catalog.proofs.Round.{lawful-node}
-use Rattle.catalog.proofs.Steps.{row-end, row-bad, row-more}
 use Rattle.catalog.proofs.check.check_nodes.Statement.{statement}
 use Rattle.catalog.proofs.check.check_nodes.Tie as tie
 

@@ -1,11 +1,11 @@
 -- The loop keeps that the types still to check give what all of them give; the laws on rows in Steps turn it.
 use mathlib.Core.Path.{_≡_, refl, sym, _∙_}
 use borrow.Author.Needs.{needs}
+use Rattle.fields.proofs.Rows.{row-end, row-bad, row-more}
 use Rattle.fields.specs.Format.{many}
 use Rattle.fields.specs.Places.{checkAt}
 use Rattle.catalog.specs.Catalog.{typeDef}
 use Rattle.catalog.proofs.Round.{lawful-type}
-use Rattle.catalog.proofs.Steps.{row-end, row-bad, row-more}
 use Rattle.catalog.proofs.check.check_types.Statement.{statement}
 use Rattle.catalog.proofs.check.check_types.Tie as tie
 

@@ -1,10 +1,10 @@
 -- The loop keeps that the tags still to check give what all of them give; the laws on rows in Steps turn it.
 use mathlib.Core.Path.{_≡_, refl, sym, _∙_}
 use borrow.Author.Needs.{needs}
+use Rattle.fields.proofs.Rows.{row-end, row-bad, row-more}
 use Rattle.fields.specs.Places.{checkAt}
 use Rattle.fields.specs.Format.{many}
 use Rattle.lists.specs.Lists.{tag}
-use Rattle.lists.proofs.Steps.{row-end, row-bad, row-more}
 use Rattle.lists.proofs.Round.{lawful-tag}
 use Rattle.lists.proofs.check.check_tag_row.Statement.{statement}
 use Rattle.lists.proofs.check.check_tag_row.Tie as tie

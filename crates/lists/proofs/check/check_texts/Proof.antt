@@ -1,11 +1,11 @@
 -- The loop keeps that the texts still to check give what all of them give; the laws on rows in Steps turn it.
 use mathlib.Core.Path.{_≡_, refl, sym, _∙_}
 use borrow.Author.Needs.{needs}
+use Rattle.fields.proofs.Rows.{row-end, row-bad, row-more}
 use Rattle.fields.specs.Places.{checkAt}
 use Rattle.fields.specs.Fields.{text}
 use Rattle.fields.specs.Format.{many}
 use Rattle.fields.proofs.LawfulFields.{lawful-text}
-use Rattle.lists.proofs.Steps.{row-end, row-bad, row-more}
 use Rattle.lists.proofs.check.check_texts.Statement.{statement}
 use Rattle.lists.proofs.check.check_texts.Tie as tie
 

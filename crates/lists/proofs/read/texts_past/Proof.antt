@@ -2,12 +2,12 @@
 use mathlib.Core.Path.{_≡_, refl, sym, _∙_}
 use denote.Ref.{now}
 use borrow.Author.Needs.{needs}
+use Rattle.fields.proofs.Rows.{many-place-step}
 use Rattle.fields.specs.Places.{placeAt}
 use Rattle.fields.specs.Fields.{text}
 use Rattle.fields.specs.Format.{many}
 use Rattle.fields.proofs.Reading.{many-place-none, text-place}
 use Rattle.fields.proofs.LawfulFields.{lawful-text}
-use Rattle.lists.proofs.Places.{many-place-step}
 use Rattle.lists.proofs.read.texts_past.Statement.{statement}
 use Rattle.lists.proofs.read.texts_past.Tie as tie
 

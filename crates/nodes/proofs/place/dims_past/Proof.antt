@@ -3,12 +3,13 @@ use mathlib.Core.Path.{_≡_, sym, _∙_}
 use native.Mathlib.Omega.{arith}
 use denote.Ref.{now}
 use borrow.Author.Needs.{needs}
+use Rattle.fields.proofs.Rows.{counted-place, many-place-step}
 use Rattle.fields.specs.Places.{placeAt}
 use Rattle.fields.specs.Format.{many}
 use Rattle.fields.proofs.Reading.{many-place-none}
 use Rattle.catalog.specs.Catalog.{dims}
 use Rattle.catalog.proofs.Round.{lawful-dim}
-use Rattle.nodes.proofs.Places.{dim, counted-place, many-place-step, number-past}
+use Rattle.nodes.proofs.Places.{dim, number-past}
 use Rattle.nodes.proofs.place.dims_past.Statement.{statement}
 use Rattle.nodes.proofs.place.dims_past.Tie as tie
 

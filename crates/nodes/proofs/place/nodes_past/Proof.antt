@@ -2,12 +2,12 @@
 use mathlib.Core.Path.{_≡_, refl, sym, _∙_}
 use denote.Ref.{now}
 use borrow.Author.Needs.{needs}
+use Rattle.fields.proofs.Rows.{many-place-step}
 use Rattle.fields.specs.Places.{placeAt}
 use Rattle.fields.specs.Format.{many}
 use Rattle.fields.proofs.Reading.{many-place-none}
 use Rattle.catalog.specs.Catalog.{node}
 use Rattle.catalog.proofs.Round.{lawful-node}
-use Rattle.nodes.proofs.Places.{many-place-step}
 use Rattle.nodes.proofs.place.nodes_past.Statement.{statement}
 use Rattle.nodes.proofs.place.nodes_past.Tie as tie
 

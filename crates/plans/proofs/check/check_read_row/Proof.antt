@@ -1,11 +1,11 @@
 -- The loop keeps that the reads still to check give what all of them give; the laws on rows in Steps turn it.
 use mathlib.Core.Path.{_≡_, refl, sym, _∙_}
 use borrow.Author.Needs.{needs}
+use Rattle.fields.proofs.Rows.{row-end, row-bad, row-more}
 use Rattle.fields.specs.Format.{many}
 use Rattle.fields.specs.Places.{checkAt}
 use Rattle.plans.specs.Plans.{read}
 use Rattle.plans.proofs.Round.{lawful-read}
-use Rattle.plans.proofs.Steps.{row-end, row-bad, row-more}
 use Rattle.plans.proofs.check.check_read_row.Statement.{statement}
 use Rattle.plans.proofs.check.check_read_row.Tie as tie
 

@@ -1,8 +1,8 @@
 -- Both ways out are laws in Places on where a field ends that may be missing.
 use denote.Ref.{now}
 use borrow.Author.Needs.{needs}
+use Rattle.fields.proofs.Rows.{optional-past-none, optional-past-some}
 use Rattle.plans.specs.Plans.{steps}
-use Rattle.plans.proofs.Places.{optional-past-none, optional-past-some}
 use Rattle.plans.proofs.place.path_past.Statement.{statement}
 use Rattle.plans.proofs.place.path_past.Tie as tie
 
