@@ -1,0 +1,11 @@
+pub mod Examples
+pub mod Enclosed
+pub mod Along
+pub mod Closed
+pub mod Counts
+pub mod Closing
+pub mod Framed
+pub mod Laid
+pub mod Round
+pub mod Apart
+pub mod Accepting

@@ -1,0 +1,4 @@
+pub mod Value
+pub mod File
+pub mod Alike
+pub mod Told
