@@ -1,4 +1,5 @@
 pub mod Bench
+pub mod Bounds
 pub mod Costs
 pub mod Named
 pub mod Replies

@@ -44,7 +44,7 @@ module _ (c : Catalog) (a : Text) (n : ℕ) where
       (ap₂ told (e ∙ bounded-is c a l) (g ∙ ap (λ x. rangeReply x n) (f ∙ looked-up c a l)))
 
 -- ---- the array of a range
-abbrev Front : Text → Option Range → Type 0
+abbrev pub Front : Text → Option Range → Type 0
 Front s none = Unit {0}
 Front s (some g) = g .array ≡ take (length (g .array)) s
 
@@ -53,7 +53,7 @@ unfolding andThen
 then-front s none f h = tt
 then-front s (some a) f h = h a
 
-range-front : (s : Text) → Front s (rangeOf s)
+pub range-front : (s : Text) → Front s (rangeOf s)
 unfolding rangeOf rangeAt
 range-front s =
     then-front s (lastFrom 123 s 0 none) (rangeAt s) (λ i.

@@ -102,7 +102,7 @@ none-left : (is : List ℕ) → length is ≡ 0 → is ≡ []
 none-left [] e = refl
 none-left (i ∷ is) e = let y : ⊥ = omega arith in absurd y
 
-cost-indexes : (is : List ℕ) → keySize (indexKey is) ≡ indexSizes is
+pub cost-indexes : (is : List ℕ) → keySize (indexKey is) ≡ indexSizes is
 unfolding keySize indexKey indexSizes
 cost-indexes [] = refl
 cost-indexes (i ∷ []) = omega arith
