@@ -26,6 +26,7 @@ ghost use Rattle.packing.specs.Packing.{standard, packets, groupsFile};
 ghost use Rattle.packing.specs.Tables.{sizesOf, tablesVerdict};
 ghost use Rattle.packing.specs.Told.{countedOf};
 ghost use Rattle.queries.specs.Queries.{queryVerdict, measuredOf, wholeOf};
+ghost use Rattle.groups.specs.Groups.{groupsVerdict, planGroups};
 ghost use Rattle.embed.specs.Returned.{low, refusedAs, returned, checkedAs, packetsAs, requestAs, replyAs, wholeAs};
 
 // What fits into 56 bits.
@@ -143,6 +144,21 @@ pub extern "C" fn ruvangixo_chunks(
     ensures memory { λ r. ⌜ now (out .exit) ≡ buffer (writing (tablesVerdict (now (requests .entry)) (now (replies .entry))) (groupsFile standard budget (sizesOf (now (requests .entry)) (now (replies .entry)))) (now (out .entry))) (groupsFile standard budget (sizesOf (now (requests .entry)) (now (replies .entry)))) (now (out .entry)) ⌝ }
 {
     let w = packing::chunk::chunks(requests, replies, budget, out);
+    encode(w)
+}
+
+// The groups of a plan's reads, by the sizes that the catalog gives them, as a groups file. Returned: the bytes written.
+#[no_mangle]
+pub extern "C" fn ruvangixo_plan_chunks(
+    catalog: &[u8],
+    plan: &[u8],
+    budget: u16,
+    out: &mut [u8],
+) -> u64
+    ensures answer { λ r. ⌜ r ≡ returned (writing (groupsVerdict (now (catalog .entry)) (now (plan .entry))) (planGroups standard budget (now (catalog .entry)) (now (plan .entry))) (now (out .entry))) ⌝ }
+    ensures memory { λ r. ⌜ now (out .exit) ≡ buffer (writing (groupsVerdict (now (catalog .entry)) (now (plan .entry))) (planGroups standard budget (now (catalog .entry)) (now (plan .entry))) (now (out .entry))) (planGroups standard budget (now (catalog .entry)) (now (plan .entry))) (now (out .entry)) ⌝ }
+{
+    let w = groups::plan_chunks(catalog, plan, budget, out);
     encode(w)
 }
 

@@ -8,6 +8,7 @@ use fields::number::raw;
 use fields::text::equal;
 use fields::write::put_bytes;
 use fields::write::put_number;
+use groups::plan_chunks;
 use lookup::Bytes;
 use lookup::info::info;
 use nodes::Found;
@@ -162,6 +163,12 @@ fn put_packets(requests: &[u8], replies: &[u8], budget: &[u8], out: &mut [u8]) -
     }
 }
 
+// The groups of a plan's reads, by the catalog.
+fn put_plan_chunks(catalog: &[u8], plan: &[u8], budget: &[u8], out: &mut [u8]) -> Written {
+    let b = (raw(budget, 0, Width::Two) % 65536) as u16;
+    plan_chunks(catalog, plan, b, out)
+}
+
 // The call itself.
 fn made(call: Call, first: &[u8], second: &[u8], third: &[u8], out: &mut [u8]) -> Written {
     match call {
@@ -173,6 +180,7 @@ fn made(call: Call, first: &[u8], second: &[u8], third: &[u8], out: &mut [u8]) -
         Call::Damaged => Written::Done(put_verdict(first, out)),
         Call::Chunks => put_chunks(first, second, third, out),
         Call::Packets => put_packets(first, second, third, out),
+        Call::PlanChunks => put_plan_chunks(first, second, third, out),
     }
 }
 
@@ -187,6 +195,7 @@ fn wants_catalog(call: Call) -> bool {
         Call::Damaged => false,
         Call::Chunks => false,
         Call::Packets => false,
+        Call::PlanChunks => false,
     }
 }
 

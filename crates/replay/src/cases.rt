@@ -15,6 +15,7 @@ pub enum Call {
     Damaged,
     Chunks,
     Packets,
+    PlanChunks,
 }
 
 // How many inputs a call takes.
@@ -28,6 +29,7 @@ pub fn input_count(call: Call) -> usize {
         Call::Damaged => 2,
         Call::Chunks => 3,
         Call::Packets => 3,
+        Call::PlanChunks => 3,
     }
 }
 

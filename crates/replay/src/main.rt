@@ -106,4 +106,5 @@ fn main() {
     run(Call::Damaged, b"damaged.cases");
     run(Call::Chunks, b"chunks.cases");
     run(Call::Packets, b"packets.cases");
+    run(Call::PlanChunks, b"plan_chunks.cases");
 }
