@@ -1,5 +1,5 @@
 //! Holds the library against the Rust on generated cases: what is returned, every byte of the output, and that
-//! nothing else was written. A difference is told by the smallest case found that still differs.
+//! nothing else was written, each call made twice. A difference is told by the smallest case found that still differs.
 
 use std::collections::BTreeMap;
 
@@ -13,7 +13,8 @@ pub use crate::library::linked;
 
 /// How many differences are shown.
 const SHOWN: usize = 3;
-const PATTERN: u8 = 0xa5;
+/// What the output holds before the first call and before the second.
+const FILLS: [u8; 2] = [0xa5, 0x5a];
 
 /// A case with the room that its output gets.
 #[derive(Clone)]
@@ -71,8 +72,8 @@ fn trial(random: &mut Random, kind: &Kind, call: &Call) -> Result<Trial, String>
 }
 
 fn shown(kind: &Kind, call: &Call, trial: &Trial) -> Vec<&'static str> {
-    if (call.refusal)(&trial.fields).is_some() {
-        return vec!["refused input"];
+    if let Some(refusal) = (call.refusal)(&trial.fields) {
+        return vec![refusal.cause];
     }
     let Ok(answer) = answer(kind, call, &trial.fields) else {
         return vec!["no answer by the Rust"];
@@ -82,33 +83,39 @@ fn shown(kind: &Kind, call: &Call, trial: &Trial) -> Vec<&'static str> {
         features.when(trial.room == answer.len(), "room: just enough");
         features.when(trial.room > answer.len(), "room: more than enough");
         features.when(trial.room < answer.len(), "room: too little");
+        features.when(trial.room + 1 == answer.len(), "room: one byte short");
         features.when(trial.room == 0, "room: none");
     }
     features.0
 }
 
-/// What the call must return and what must stand in the output after it; None if the Rust has no answer.
+/// What the call must return and the bytes that it must write; None if the Rust has no answer.
 fn expected(kind: &Kind, call: &Call, trial: &Trial) -> Option<(u64, Vec<u8>)> {
-    let mut out = vec![PATTERN; trial.room];
-    if let Some((number, returned)) = (call.refusal)(&trial.fields) {
-        return Some((u64::from(number) << 56 | returned, out));
+    if let Some(refusal) = (call.refusal)(&trial.fields) {
+        return Some((u64::from(refusal.number) << 56 | refusal.returned, vec![]));
     }
     let answer = answer(kind, call, &trial.fields).ok()?;
     if !call.writes {
         let returned = answer.iter().fold(0, |n, b| n << 8 | u64::from(*b));
-        return Some((returned, out));
+        return Some((returned, vec![]));
     }
+    let needed = answer.len() as u64;
     if answer.len() > trial.room {
-        return Some((9 << 56 | answer.len() as u64, out));
+        return Some((9 << 56 | needed, vec![]));
     }
-    out[..answer.len()].copy_from_slice(&answer);
-    Some((answer.len() as u64, out))
+    Some((needed, answer))
 }
 
-/// What the library does otherwise, if anything.
+/// What the library does otherwise, if anything, at the first call or at the second.
 fn difference(library: &Library, kind: &Kind, call: &Call, trial: &Trial) -> Option<String> {
-    let (returned, content) = expected(kind, call, trial)?;
-    let mut out = Lent::new(&vec![PATTERN; trial.room], !PATTERN);
+    let (returned, written) = expected(kind, call, trial)?;
+    FILLS.iter().find_map(|fill| called(library, call, trial, *fill, (returned, &written)))
+}
+
+/// One call, with an output that holds the fill everywhere; what is not written must stay so.
+fn called(library: &Library, call: &Call, trial: &Trial, fill: u8, right: (u64, &[u8])) -> Option<String> {
+    let (returned, written) = right;
+    let mut out = Lent::new(&vec![fill; trial.room], !fill);
     let got = match (call.call)(library, &trial.fields, &mut out) {
         Ok(got) => got,
         Err(message) => return Some(message),
@@ -119,8 +126,8 @@ fn difference(library: &Library, kind: &Kind, call: &Call, trial: &Trial) -> Opt
     if got != returned {
         return Some(format!("returned {}, not {}", number(got), number(returned)));
     }
-    let place = out.content().iter().zip(&content).position(|(a, b)| a != b)?;
-    let (wrong, right) = (out.content()[place], content[place]);
+    let content = written.iter().chain(std::iter::repeat(&fill));
+    let (place, (wrong, right)) = out.content().iter().zip(content).enumerate().find(|(_, (a, b))| a != b)?;
     Some(format!("byte {place} of the output is {wrong}, not {right}"))
 }
 
@@ -166,4 +173,4 @@ fn rooms(kind: &Kind, call: &Call, fields: &Fields, room: usize) -> Vec<usize> {
 
 #[cfg(test)]
 #[path = "compare_tests.rs"]
-mod tests;
+pub(crate) mod tests;

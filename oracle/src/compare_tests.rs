@@ -3,6 +3,7 @@
 use super::compare;
 use crate::catalog::Catalog;
 use crate::library::{Library, struct_part};
+use crate::packed::tests::{chunks, packets};
 use crate::{lookup, names, worst};
 
 type Answer = fn(&[u8]) -> Result<Vec<u8>, String>;
@@ -87,16 +88,17 @@ unsafe extern "C" fn catalog(file: *const u8, size: usize) -> u64 {
     u64::from(Catalog::read(file).is_err()) << 56
 }
 
-const RIGHT: Library = Library { tokens, strip, range, catalog, request_size, reply_size, struct_size };
+pub(crate) const RIGHT: Library =
+    Library { tokens, strip, range, catalog, request_size, reply_size, struct_size, chunks, packets };
 
-fn run(library: Library, kind: &str) -> (String, bool) {
+pub(crate) fn run(library: Library, kind: &str) -> (String, bool) {
     let (lines, same) = compare(&library, kind, 4000, 1).expect("the comparison runs");
     (lines.join("\n"), same)
 }
 
 #[test]
 fn the_oracle_does_not_differ_from_itself() {
-    for kind in ["tokens", "strip", "range", "request_size", "reply_size", "struct_size"] {
+    for kind in ["tokens", "strip", "range", "request_size", "reply_size", "struct_size", "chunks", "packets"] {
         let (text, same) = run(RIGHT, kind);
         assert!(same, "{text}");
         assert!(text.contains("0 differences in 4000 cases"));

@@ -32,6 +32,7 @@ pub mod library;
 pub mod list;
 pub mod lookup;
 pub mod names;
+pub mod packed;
 pub mod plan;
 pub mod random;
 pub mod results;

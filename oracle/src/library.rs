@@ -3,6 +3,7 @@
 
 use crate::guard::Lent;
 use crate::names::LONGEST;
+use crate::packed::{self, ChunksCall, PacketsCall};
 use crate::random::Random;
 
 /// A call with one input and an output, each a pointer and a length.
@@ -24,12 +25,19 @@ pub struct Library {
     pub request_size: LookupCall,
     pub reply_size: LookupCall,
     pub struct_size: LookupCall,
+    pub chunks: ChunksCall,
+    pub packets: PacketsCall,
 }
 
 /// What a call returned, or what it changed that it may not change.
 pub type Returned = Result<u64, String>;
-/// A refusal's number and what it returns.
-pub type Refusal = Option<(u8, u64)>;
+
+/// A refusal's number, what it returns, and the cause as the table of cases names it.
+pub struct Refusal {
+    pub number: u8,
+    pub returned: u64,
+    pub cause: &'static str,
+}
 
 /// How the library is called for one kind of case.
 pub struct Call {
@@ -42,9 +50,9 @@ pub struct Call {
     pub call: fn(&Library, &[Vec<u8>], &mut Lent<u8>) -> Returned,
     /// Whether the answer is written to the lent output, rather than returned.
     pub writes: bool,
-    /// The refusal (number, returned) that comes before the output is looked at.
-    pub refusal: fn(&[Vec<u8>]) -> Refusal,
-    /// A change that makes an input refused.
+    /// The refusal that comes before the output is looked at.
+    pub refusal: fn(&[Vec<u8>]) -> Option<Refusal>,
+    /// A change that brings an input to a limit, mostly over it.
     pub spoil: fn(&mut Random, &mut [Vec<u8>]),
 }
 
@@ -104,6 +112,24 @@ pub const CALLS: &[Call] = &[
         refusal: too_long,
         spoil: lengthen,
     },
+    Call {
+        name: "chunks",
+        kind: "chunks",
+        part: |answer| answer,
+        call: |library, fields, out| packed::chunks(library.chunks, fields, out),
+        writes: true,
+        refusal: packed::refusal,
+        spoil: packed::spoil,
+    },
+    Call {
+        name: "packets",
+        kind: "packets",
+        part: |answer| answer,
+        call: |library, fields, _| packed::packets(library.packets, fields),
+        writes: false,
+        refusal: packed::refusal,
+        spoil: packed::spoil,
+    },
 ];
 
 /// The last of the sizes, behind that of an element; all 56 bits set where there is none.
@@ -137,8 +163,9 @@ pub fn looked_up(function: LookupCall, fields: &[Vec<u8>]) -> Returned {
 }
 
 /// The name is the last input.
-fn too_long(fields: &[Vec<u8>]) -> Refusal {
-    (fields[fields.len() - 1].len() > LONGEST).then_some((5, 0))
+fn too_long(fields: &[Vec<u8>]) -> Option<Refusal> {
+    let refusal = Refusal { number: 5, returned: 0, cause: "refused: a name too long" };
+    (fields[fields.len() - 1].len() > LONGEST).then_some(refusal)
 }
 
 fn lengthen(random: &mut Random, fields: &mut [Vec<u8>]) {
@@ -161,6 +188,9 @@ pub fn linked() -> Result<Library, String> {
         fn ruvangixo_request_size(catalog: *const u8, size: usize, name: *const u8, length: usize) -> u64;
         fn ruvangixo_reply_size(catalog: *const u8, size: usize, name: *const u8, length: usize) -> u64;
         fn ruvangixo_struct_size(catalog: *const u8, size: usize, name: *const u8, length: usize) -> u64;
+        fn ruvangixo_chunks(t: *const u64, n: usize, u: *const u64, m: usize, b: u16, out: *mut u8, room: usize)
+        -> u64;
+        fn ruvangixo_packets(t: *const u64, n: usize, u: *const u64, m: usize, b: u16) -> u64;
     }
     Ok(Library {
         tokens: ruvangixo_tokens,
@@ -170,6 +200,8 @@ pub fn linked() -> Result<Library, String> {
         request_size: ruvangixo_request_size,
         reply_size: ruvangixo_reply_size,
         struct_size: ruvangixo_struct_size,
+        chunks: ruvangixo_chunks,
+        packets: ruvangixo_packets,
     })
 }
 
