@@ -1,13 +1,13 @@
 //! The stored cases: one file a kind, a row of cases, each a row of fields behind a length of 4 bytes. Those made
-//! by hand come first, then generated ones that show something still rare, then any until there are enough. The
-//! damaged catalogs are a file of their own, all made by hand.
+//! by hand come first, then generated ones that show something still rare, then any until there are enough. Damaged
+//! catalogs, lists and plans are files of their own, all made by hand; so are lists that are to be written anew.
 
 use std::collections::HashMap;
 use std::path::Path;
 
 use crate::bytes::Writer;
-use crate::damaged;
-use crate::kinds::{Fields, KINDS, Kind};
+use crate::damaged::{self, Case};
+use crate::kinds::{self, Fields, KINDS, Kind};
 use crate::random::Random;
 
 /// How often a feature is to be among the stored cases before it is no longer looked for.
@@ -17,6 +17,9 @@ const LOOKED_AT: usize = 6000;
 /// Generated cases of more bytes are left out, but for a few.
 const SMALL: usize = 1500;
 const FEW: usize = 12;
+/// How many lists are stored to be written anew, and from which cases of `plan`.
+const LISTS: usize = 120;
+const EVERY: usize = 7;
 
 /// A file of stored cases.
 struct Stored {
@@ -85,7 +88,10 @@ fn files(seed: u64) -> Result<Vec<Stored>, String> {
     for kind in KINDS {
         files.push(answered(kind, &choose(kind, seed)?)?);
     }
-    files.push(damaged_file());
+    files.push(damaged_file("damaged", &damaged::catalogs::all()));
+    files.push(damaged_file("damaged_lists", &damaged::lists::all()));
+    files.push(damaged_file("damaged_plans", &damaged::plans::all()));
+    files.push(lists_file(&lists(seed)?));
     Ok(files)
 }
 
@@ -137,16 +143,39 @@ fn answered(kind: &Kind, cases: &[Fields]) -> Result<Stored, String> {
     Ok(Stored { name: format!("{}.cases", kind.name), cases: cases.len(), bytes: writer.file })
 }
 
-/// The file of damaged catalogs, laid out as cases with a catalog and a name: the name is empty.
-fn damaged_file() -> Stored {
+/// A file of damaged files, laid out as cases with a catalog and a name: the name is empty.
+fn damaged_file(name: &str, cases: &[Case]) -> Stored {
     let mut writer = Writer::default();
-    let cases = damaged::all();
-    for case in &cases {
+    for case in cases {
         put(&mut writer, &case.file);
         put(&mut writer, &[]);
         put(&mut writer, &case.answer());
     }
-    Stored { name: "damaged.cases".to_owned(), cases: cases.len(), bytes: writer.file }
+    Stored { name: format!("{name}.cases"), cases: cases.len(), bytes: writer.file }
+}
+
+/// Lists to be written anew from what is read of them: those made by hand that are accepted, then every so many of the
+/// stored cases of `plan`.
+pub fn lists(seed: u64) -> Result<Vec<Vec<u8>>, String> {
+    let accepted = damaged::lists::all().into_iter().filter(|case| case.number == 0).map(|case| case.file);
+    let mut lists: Vec<Vec<u8>> = accepted.collect();
+    for mut case in choose(kinds::named("plan")?, seed)?.into_iter().step_by(EVERY) {
+        let list = case.swap_remove(1);
+        if lists.len() < LISTS && !lists.contains(&list) {
+            lists.push(list);
+        }
+    }
+    Ok(lists)
+}
+
+/// Each list is the answer too.
+fn lists_file(lists: &[Vec<u8>]) -> Stored {
+    let mut writer = Writer::default();
+    for list in lists {
+        put(&mut writer, list);
+        put(&mut writer, list);
+    }
+    Stored { name: "lists.cases".to_owned(), cases: lists.len(), bytes: writer.file }
 }
 
 fn put(writer: &mut Writer, field: &[u8]) {

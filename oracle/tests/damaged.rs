@@ -1,21 +1,66 @@
-//! The damaged catalogs, held against the oracle's own reader. It tells only whether a file is accepted; the numbers and
+//! The damaged files, held against the oracle's own readers. These tell only whether a file is accepted; the numbers and
 //! places are compared by the replay.
 
 use oracle::catalog::Catalog;
-use oracle::damaged;
+use oracle::damaged::{Case, catalogs, lists, plans};
+use oracle::list::List;
+use oracle::{plan, store};
 
-#[test]
-fn the_reader_accepts_those_without_a_refusal_and_no_other() {
-    for case in damaged::all() {
-        assert_eq!(Catalog::read(&case.file).is_ok(), case.number == 0, "{}", case.what);
+fn told(cases: &[Case], accepts: impl Fn(&[u8]) -> bool) {
+    for case in cases {
+        assert_eq!(accepts(&case.file), case.number == 0, "{}", case.what);
     }
 }
 
 #[test]
+fn the_readers_accept_those_without_a_refusal_and_no_other() {
+    told(&catalogs::all(), |file| Catalog::read(file).is_ok());
+    told(&lists::all(), |file| List::read(file).is_ok());
+    told(&plans::all(), |file| plan::read(file).is_ok());
+}
+
+#[test]
 fn no_case_stands_twice() {
-    let cases = damaged::all();
-    for (position, case) in cases.iter().enumerate() {
-        let earlier = cases[..position].iter().find(|c| c.file == case.file);
-        assert!(earlier.is_none(), "{} and {}", case.what, earlier.map_or("", |c| &c.what));
+    for cases in [catalogs::all(), lists::all(), plans::all()] {
+        for (position, case) in cases.iter().enumerate() {
+            let earlier = cases[..position].iter().find(|c| c.file == case.file);
+            assert!(earlier.is_none(), "{} and {}", case.what, earlier.map_or("", |c| &c.what));
+        }
+    }
+}
+
+#[test]
+fn every_refusal_of_lists_and_plans_is_there() {
+    for cases in [lists::all(), plans::all()] {
+        for number in [0, 1, 2, 3, 4, 5, 8] {
+            assert!(cases.iter().any(|case| case.number == number), "{number}");
+        }
+        assert!(cases.iter().all(|case| [0, 1, 2, 3, 4, 5, 8].contains(&case.number)));
+    }
+}
+
+/// A refusal is told by a place in the file, or right behind it for a field that is not there; 1 by the limit.
+#[test]
+fn the_places_are_in_their_files() {
+    for (cases, limit) in [(lists::all(), 16_384), (plans::all(), 65_536)] {
+        for case in cases {
+            let size = case.file.len() as u64;
+            let right = match case.number {
+                1 => case.returned == limit && size > limit,
+                3 => case.returned <= size,
+                4 | 5 | 8 => case.returned < size,
+                _ => case.returned == 0,
+            };
+            assert!(right, "{}", case.what);
+        }
+    }
+}
+
+#[test]
+fn the_stored_lists_read_back() {
+    let lists = store::lists(1).expect("the lists are accepted");
+    assert_eq!(lists.len(), 120);
+    for list in &lists {
+        assert_eq!(&List::read(list).expect("an accepted list").write(), list);
     }
 }
