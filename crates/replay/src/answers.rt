@@ -1,4 +1,5 @@
 // The calls themselves, and whether they give the stored answers.
+use crate::anew::put_list;
 use crate::cases::Call;
 use fields::Checked;
 use fields::Width;
@@ -9,6 +10,7 @@ use fields::text::equal;
 use fields::write::put_bytes;
 use fields::write::put_number;
 use groups::plan_chunks;
+use lists::check::check_list;
 use lookup::Bytes;
 use lookup::info::info;
 use nodes::Found;
@@ -16,6 +18,7 @@ use nodes::place::node_past;
 use packing::Counted;
 use packing::chunk::chunks;
 use packing::table::packets;
+use plans::check::check_plan;
 use queries::check_catalog;
 use sizes::reply::element_size;
 use sizes::reply::read_size;
@@ -105,9 +108,8 @@ fn put_sizes(catalog: &[u8], name: &[u8], out: &mut [u8]) -> usize {
     put_size(out, at, whole_size(catalog, info(catalog, name)))
 }
 
-// Writes what the check of a catalog answers: the number of the refusal and what it returns, both 0 where there is none.
-fn put_verdict(catalog: &[u8], out: &mut [u8]) -> usize {
-    let v = check_catalog(catalog);
+// Writes what the check of a file answers: the number of the refusal and what it returns, both 0 where there is none.
+fn put_verdict(v: Checked, out: &mut [u8]) -> usize {
     match v {
         Checked::Good(_) => {
             put_number(out, 0, Width::One, 0);
@@ -177,10 +179,13 @@ fn made(call: Call, first: &[u8], second: &[u8], third: &[u8], out: &mut [u8]) -
         Call::Range => names::listing::list_range(first, out),
         Call::Info => Written::Done(put_info(first, second, out)),
         Call::Sizes => Written::Done(put_sizes(first, second, out)),
-        Call::Damaged => Written::Done(put_verdict(first, out)),
+        Call::Damaged => Written::Done(put_verdict(check_catalog(first), out)),
         Call::Chunks => put_chunks(first, second, third, out),
         Call::Packets => put_packets(first, second, third, out),
         Call::PlanChunks => put_plan_chunks(first, second, third, out),
+        Call::DamagedLists => Written::Done(put_verdict(check_list(first), out)),
+        Call::DamagedPlans => Written::Done(put_verdict(check_plan(first), out)),
+        Call::Lists => put_list(first, out),
     }
 }
 
@@ -196,6 +201,9 @@ fn wants_catalog(call: Call) -> bool {
         Call::Chunks => false,
         Call::Packets => false,
         Call::PlanChunks => false,
+        Call::DamagedLists => false,
+        Call::DamagedPlans => false,
+        Call::Lists => false,
     }
 }
 
@@ -215,7 +223,7 @@ pub fn agrees(call: Call, first: &[u8], second: &[u8], third: &[u8], answer: &[u
             return false;
         }
     }
-    let mut out = [UNTOUCHED; 2048];
+    let mut out = [UNTOUCHED; 16640];
     let w = made(call, first, second, third, &mut out);
     wrote(w, &out, answer)
 }

@@ -16,6 +16,9 @@ pub enum Call {
     Chunks,
     Packets,
     PlanChunks,
+    DamagedLists,
+    DamagedPlans,
+    Lists,
 }
 
 // How many inputs a call takes.
@@ -30,6 +33,9 @@ pub fn input_count(call: Call) -> usize {
         Call::Chunks => 3,
         Call::Packets => 3,
         Call::PlanChunks => 3,
+        Call::DamagedLists => 2,
+        Call::DamagedPlans => 2,
+        Call::Lists => 1,
     }
 }
 

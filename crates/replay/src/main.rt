@@ -1,5 +1,5 @@
 // Replays the stored answers of the Rust: each case of data/ is put to the proved code, and what it answers is compared byte for byte.
-// The refusals of damaged catalogs are document 01's, the Rust has none.
+// The refusals of damaged catalogs, lists and plans are document 01's, the Rust has none.
 // It prints a line for each file. How the cases were made stands in data/README.md.
 use crate::answers::agrees;
 use crate::cases::Call;
@@ -10,6 +10,7 @@ use libc::STDOUT_FILENO;
 ghost use mathlib.Core.Path.{_≡_};
 ghost use lib.ListN.{length};
 
+mod anew;
 mod answers;
 mod cases;
 
@@ -107,4 +108,7 @@ fn main() {
     run(Call::Chunks, b"chunks.cases");
     run(Call::Packets, b"packets.cases");
     run(Call::PlanChunks, b"plan_chunks.cases");
+    run(Call::DamagedLists, b"damaged_lists.cases");
+    run(Call::DamagedPlans, b"damaged_plans.cases");
+    run(Call::Lists, b"lists.cases");
 }
