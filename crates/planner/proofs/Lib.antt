@@ -1,0 +1,13 @@
+pub mod Each
+pub mod Through
+pub mod Placing
+pub mod Serving
+pub mod Rounds
+pub mod Shaped
+pub mod Groups
+pub mod Leads
+pub mod Runs
+pub mod Shrinks
+pub mod Computing
+pub mod Bench
+pub mod Stored

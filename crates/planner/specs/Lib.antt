@@ -1,0 +1,6 @@
+pub mod Lists
+pub mod Tags
+pub mod Candidates
+pub mod Merging
+pub mod Plan
+pub mod Serving
