@@ -9,3 +9,8 @@ pub mod Laid
 pub mod Round
 pub mod Apart
 pub mod Accepting
+pub mod Walks
+pub mod Stands
+pub mod Cutting
+pub mod Bodies
+pub mod DigExamples

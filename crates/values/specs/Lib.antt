@@ -2,3 +2,5 @@ pub mod Value
 pub mod File
 pub mod Alike
 pub mod Told
+pub mod Dig
+pub mod Walk

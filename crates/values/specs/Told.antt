@@ -1,7 +1,14 @@
 -- What the code's checks and walks answer.
 -- Assumes nothing: these are definitions.
+use mathlib.Core.Option.{Option, none, some}
+use Rattle.fields.specs.Format.{Verdict, fine, bad}
+use Rattle.values.specs.Value.{Value}
+use Rattle.values.specs.File.{layout}
+use Rattle.values.specs.Alike.{pastValue}
+use Rattle.values.specs.declared.Dug.{Dug}
+use Rattle.values.specs.declared.Dug.the-variants.{At, NotThere, Refused as Unfit}
 use Prim.Native.Nat.{ℕ}
-use mathlib.Core.List.{List}
+use mathlib.Core.List.{List, []}
 use lib.ListN.{length, drop}
 use Rattle.fields.specs.Files.{endingCheck}
 use Rattle.fields.specs.Places.{told}
@@ -12,3 +19,19 @@ use Rattle.fields.specs.declared.Checked.the-variants.{Good, Refused}
 unfoldable pub closedAt : List ℕ → Checked → Checked
 closedAt s (Good p) = told (endingCheck (drop p s) p) (length s)
 closedAt s (Refused r) = Refused r
+
+-- what the walk found, as the code tells it: the part from its length field on
+unfoldable pub dugTold : List ℕ → Option ℕ → Dug
+dugTold s none = NotThere
+dugTold s (some p) = At p (pastValue s p)
+
+-- with the verdict of the inputs
+unfoldable pub dugOf : Verdict → List ℕ → Option ℕ → Dug
+dugOf fine s o = dugTold s o
+dugOf (bad r) s o = Unfit r
+
+-- the bytes that a cut hands back: the layout of the value, nothing where there is none
+unfoldable pub cutBytes : Verdict → Option Value → List ℕ
+cutBytes fine none = []
+cutBytes fine (some v) = layout v
+cutBytes (bad r) o = []

@@ -21,7 +21,7 @@ ghost use Rattle.values.specs.File.{runsPast, value, items, members, con
 ghost use Rattle.values.specs.Told.{closedAt};
 
 // What was checked has to end where the file does: the file's length, or the refusal.
-fn closed(s: &[u8], v: Checked) -> Checked
+pub fn closed(s: &[u8], v: Checked) -> Checked
     ensures { λ r. ⌜ r ≡ closedAt (now (s .entry)) v ⌝ }
 {
     match v {
