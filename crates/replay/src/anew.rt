@@ -74,7 +74,7 @@ fn put_row(s: &[u8], row: Row, out: &mut [u8], from: usize) -> usize {
 }
 
 // The list anew, if it is accepted.
-pub fn put_list(s: &[u8], out: &mut [u8]) -> Written {
+pub(crate) fn put_list(s: &[u8], out: &mut [u8]) -> Written {
     let v = check_list(s);
     match v {
         Checked::Refused(r) => Written::Refused(r),

@@ -217,7 +217,7 @@ fn is_catalog(catalog: &[u8]) -> bool {
 }
 
 // Whether a call gives the stored answer.
-pub fn agrees(call: Call, first: &[u8], second: &[u8], third: &[u8], answer: &[u8]) -> bool {
+pub(crate) fn agrees(call: Call, first: &[u8], second: &[u8], third: &[u8], answer: &[u8]) -> bool {
     if wants_catalog(call) {
         if !is_catalog(first) {
             return false;

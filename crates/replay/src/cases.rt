@@ -22,7 +22,7 @@ pub enum Call {
 }
 
 // How many inputs a call takes.
-pub fn input_count(call: Call) -> usize {
+pub(crate) fn input_count(call: Call) -> usize {
     match call {
         Call::Tokens => 1,
         Call::Strip => 1,

@@ -39,20 +39,22 @@ enclosed f = record {
 unfoldable pub bytesLeft : Format (List ℕ)
 bytesLeft = record { read = λ l i. record { value = l; rest = []; place = i + length l; verdict = fine }; lay = λ l. l; within = λ _. Unit {0} }
 
--- items as a list, and back
+-- items as a list
 unfoldable pub itemList : Items → List Value
 itemList noItem = []
 itemList (item v vs) = v ∷ itemList vs
 
+-- a list as items
 unfoldable pub itemsOf : List Value → Items
 itemsOf [] = noItem
 itemsOf (v ∷ vs) = item v (itemsOf vs)
 
--- members as a list, and back
+-- members as a list
 unfoldable pub memberList : Members → List (Text × Value)
 memberList noMember = []
 memberList (member t v ms) = (t, v) ∷ memberList ms
 
+-- a list as members
 unfoldable pub membersOf : List (Text × Value) → Members
 membersOf [] = noMember
 membersOf (m ∷ ms) = member (m .0) (m .1) (membersOf ms)
@@ -64,25 +66,28 @@ kindByte (array vs) = 1
 kindByte (struct ms) = 2
 kindByte (string b) = 3
 
--- what a value of each kind is made of
+-- the bytes of a leaf
 unfoldable pub leafBytes : Value → Option (List ℕ)
 leafBytes (leaf b) = some b
 leafBytes (array vs) = none
 leafBytes (struct ms) = none
 leafBytes (string b) = none
 
+-- the items of an array
 unfoldable pub arrayItems : Value → Option Items
 arrayItems (leaf b) = none
 arrayItems (array vs) = some vs
 arrayItems (struct ms) = none
 arrayItems (string b) = none
 
+-- the members of a struct
 unfoldable pub structMembers : Value → Option Members
 structMembers (leaf b) = none
 structMembers (array vs) = none
 structMembers (struct ms) = some ms
 structMembers (string b) = none
 
+-- the bytes of a text
 unfoldable pub stringBytes : Value → Option (List ℕ)
 stringBytes (leaf b) = none
 stringBytes (array vs) = none
@@ -147,11 +152,12 @@ fieldsVerdict s = fileCheck longestValue (value mostLevels) s
 unfoldable pub sized : List ℕ → List ℕ
 sized b = digits 4 (length b) ++ b
 
--- how many items or members there are
+-- how many items there are
 unfoldable pub itemCount : Items → ℕ
 itemCount noItem = 0
 itemCount (item v vs) = suc (itemCount vs)
 
+-- how many members there are
 unfoldable pub memberCount : Members → ℕ
 memberCount noMember = 0
 memberCount (member t v ms) = suc (memberCount ms)
