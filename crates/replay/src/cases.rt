@@ -22,7 +22,9 @@ pub enum Call {
 }
 
 // How many inputs a call takes.
-pub(crate) fn input_count(call: Call) -> usize {
+pub fn input_count(call: Call) -> usize
+    ensures { λ r. ⌜ (1 ≤ r) × (r ≤ 3) ⌝ }
+{
     match call {
         Call::Tokens => 1,
         Call::Strip => 1,

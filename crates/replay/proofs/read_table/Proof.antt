@@ -4,8 +4,8 @@ use Prim.Native.Nat.{_-_, _≤_}
 use native.Mathlib.Omega.{arith}
 use lib.ListN.{length, length-set}
 use borrow.Author.Needs.{needs}
-use Rattle.replay.proofs.answers.read_table.Statement.{statement}
-use Rattle.replay.proofs.answers.read_table.Tie as tie
+use Rattle.replay.proofs.read_table.Statement.{statement}
+use Rattle.replay.proofs.read_table.Tie as tie
 
 abbrev Inv-loop : tie.InvT-loop
 Inv-loop s out₀ i₀ out i = (length out ≡ length out₀) × (i ≤ length out)

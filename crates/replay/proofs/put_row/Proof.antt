@@ -3,8 +3,8 @@ use mathlib.Core.Path.{_≡_}
 use Prim.Native.Nat.{_-_}
 use lib.ListN.{length}
 use borrow.Author.Needs.{needs}
-use Rattle.replay.proofs.anew.put_row.Statement.{statement}
-use Rattle.replay.proofs.anew.put_row.Tie as tie
+use Rattle.replay.proofs.put_row.Statement.{statement}
+use Rattle.replay.proofs.put_row.Tie as tie
 
 abbrev Inv-loop : tie.InvT-loop
 Inv-loop s row out₀ from count at₀ i₀ out at i = length out ≡ length out₀

@@ -3,8 +3,8 @@ use mathlib.Core.Path.{sym}
 use lib.Seq.{length-take-le}
 use denote.Ref.{now}
 use borrow.Author.Needs.{needs}
-use Rattle.replay.proofs.answers.wrote.Statement.{statement}
-use Rattle.replay.proofs.answers.wrote.Tie as tie
+use Rattle.replay.proofs.wrote.Statement.{statement}
+use Rattle.replay.proofs.wrote.Tie as tie
 
 enum-told : tie.Need-enum-told
 enum-told c = search needs

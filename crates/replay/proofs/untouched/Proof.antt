@@ -2,8 +2,8 @@
 use Prim.Native.Nat.{_-_}
 use lib.ListN.{length}
 use borrow.Author.Needs.{needs}
-use Rattle.replay.proofs.answers.untouched.Statement.{statement}
-use Rattle.replay.proofs.answers.untouched.Tie as tie
+use Rattle.replay.proofs.untouched.Statement.{statement}
+use Rattle.replay.proofs.untouched.Tie as tie
 
 abbrev Inv-loop : tie.InvT-loop
 Inv-loop out from i₀ i = Unit {0}

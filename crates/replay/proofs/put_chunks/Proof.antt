@@ -2,8 +2,8 @@
 use mathlib.Core.Path.{sym}
 use lib.Seq.{length-take-le}
 use borrow.Author.Needs.{needs}
-use Rattle.replay.proofs.answers.put_chunks.Statement.{statement}
-use Rattle.replay.proofs.answers.put_chunks.Tie as tie
+use Rattle.replay.proofs.put_chunks.Statement.{statement}
+use Rattle.replay.proofs.put_chunks.Tie as tie
 
 slice-aggregate-read-table : tie.Need-slice-aggregate-read-table
 slice-aggregate-read-table c = search needs
