@@ -1,0 +1,13 @@
+pub mod Options
+pub mod Spelling
+pub mod Fit
+pub mod Digs
+pub mod Folds
+pub mod Bounds
+pub mod Named
+pub mod Sources
+pub mod Structs
+pub mod Runs
+pub mod Demand
+pub mod Examples
+pub mod Files
