@@ -9,7 +9,8 @@ use Rattle.fields.specs.Text.{Text, bytes}
 use Rattle.catalog.specs.Catalog.{Node, TypeDef, Catalog}
 use Rattle.catalog.specs.declared.Kind.the-variants.{Atomic, Struct}
 use Rattle.catalog.specs.declared.Aoi.the-variants.{No}
-use Rattle.sizes.specs.Sizes.{readSize}
+use Rattle.names.specs.Name.{tokensOf}
+use Rattle.sizes.specs.Sizes.{Size, requestSize, readSize}
 use Rattle.packing.specs.Packing.{standard, packets}
 use Rattle.lists.specs.Lists.{TagList}
 use Rattle.plans.specs.Plans.{Step, named, indexed, Member, Read}
@@ -64,42 +65,6 @@ plain t = record { name = t; members = record { tag = t; path = none } ∷ [] }
 abbrev pair : Text → Text → Step → Text → Step → Read
 pair a t p u q = record { name = a; members = record { tag = t; path = some (p ∷ []) } ∷ record { tag = u; path = some (q ∷ []) } ∷ [] }
 
--- ---- 01, bench lists: "empty list: no reads, 0 packets"
-no-reads : planned [] ≡ []
-unfolding computing
-no-reads = refl
-
-no-packets : packetsOf (planned []) ≡ 0
-unfolding computing
-no-packets = refl
-
--- ---- 112 elements of 4 bytes lie between Trend[0] and Trend[113]: 448 bytes are no gap, 452 are
-run-of-114 : planned (bytes "Trend[0]" ∷ bytes "Trend[113]" ∷ [])
-    ≡ pair (bytes "Trend[0]{114}") (bytes "Trend[0]") (indexed 0) (bytes "Trend[113]") (indexed 113) ∷ []
-unfolding computing
-run-of-114 = refl
-
-no-run-of-115 : planned (bytes "Trend[0]" ∷ bytes "Trend[114]" ∷ []) ≡ plain (bytes "Trend[0]") ∷ plain (bytes "Trend[114]") ∷ []
-unfolding computing
-no-run-of-115 = refl
-
--- ---- two names of one element
-leading-zero : planned (bytes "Trend[3]" ∷ bytes "Trend[03]" ∷ [])
-    ≡ pair (bytes "Trend[3]{1}") (bytes "Trend[3]") (indexed 0) (bytes "Trend[03]") (indexed 0) ∷ []
-unfolding computing
-leading-zero = refl
-
--- ---- "two DINT members of a struct of 464 bytes merge", of 465 not: two replies of 12 bytes and 450 more are 474, the struct's
--- is its size and 10
-merge-464 : plannedPair 464
-    ≡ pair (bytes "Motor") (bytes "Motor.Speed") (named (bytes "Speed")) (bytes "Motor.Amps") (named (bytes "Amps")) ∷ []
-unfolding computing
-merge-464 = refl
-
-no-merge-465 : plannedPair 465 ≡ plain (bytes "Motor.Speed") ∷ plain (bytes "Motor.Amps") ∷ []
-unfolding computing
-no-merge-465 = refl
-
 -- ---- two spellings of one name
 two-spellings : planned (bytes "Motor.Speed" ∷ bytes "motor.SPEED" ∷ []) ≡ plain (bytes "Motor.Speed") ∷ plain (bytes "motor.SPEED") ∷ []
 unfolding computing
@@ -120,3 +85,52 @@ five-tags = refl
 five-packets : packetsOf (planned five) ≡ 1
 unfolding computing
 five-packets = refl
+
+-- ---- 01's lines marked P, all of them, in one check
+-- a tag in a program, with id 7
+abbrev inProgram : Catalog
+inProgram = record { tags = record { name = bytes "Program:Main.A"; typeName = bytes "DINT"; kind = Atomic; dims = []; id = some 7; size = none } ∷ []; types = [] }
+
+-- one read of these sizes
+abbrev oneRead : ℕ → ℕ → List Size
+oneRead a b = record { request = a; reply = b } ∷ []
+
+pub record Marked : Type 0 where
+  pub noReads : planned [] ≡ []
+  pub noPackets : packetsOf (planned []) ≡ 0
+  pub bitTokens : tokensOf (bytes "X.5") ≡ []
+  pub indexTokens : tokensOf (bytes "X[]") ≡ []
+  pub dotTokens : tokensOf (bytes "X.") ≡ []
+  pub programRequest : requestSize inProgram (bytes "Program:Main.A[2].b") ≡ 30
+  pub indexRequest : requestSize plant (bytes "Trend[70000]") ≡ 16
+  -- 112 elements of 4 bytes lie between: 448 bytes are no gap, 452 are
+  pub run : planned (bytes "Trend[0]" ∷ bytes "Trend[113]" ∷ [])
+      ≡ pair (bytes "Trend[0]{114}") (bytes "Trend[0]") (indexed 0) (bytes "Trend[113]") (indexed 113) ∷ []
+  pub noRun : planned (bytes "Trend[0]" ∷ bytes "Trend[114]" ∷ []) ≡ plain (bytes "Trend[0]") ∷ plain (bytes "Trend[114]") ∷ []
+  pub zeros : planned (bytes "Trend[3]" ∷ bytes "Trend[03]" ∷ [])
+      ≡ pair (bytes "Trend[3]{1}") (bytes "Trend[3]") (indexed 0) (bytes "Trend[03]") (indexed 0) ∷ []
+  -- two replies of 12 bytes and 450 more are 474; the struct's is its size and 10
+  pub merges : plannedPair 464
+      ≡ pair (bytes "Motor") (bytes "Motor.Speed") (named (bytes "Speed")) (bytes "Motor.Amps") (named (bytes "Amps")) ∷ []
+  pub stays : plannedPair 465 ≡ plain (bytes "Motor.Speed") ∷ plain (bytes "Motor.Amps") ∷ []
+  pub onePacket : packets standard 64 (oneRead 14 12) ≡ 1
+  pub fourPackets : packets standard 63 (oneRead 14 12) ≡ 4
+
+pub marked : Marked
+unfolding computing
+marked = record {
+  noReads = refl;
+  noPackets = refl;
+  bitTokens = refl;
+  indexTokens = refl;
+  dotTokens = refl;
+  programRequest = refl;
+  indexRequest = refl;
+  run = refl;
+  noRun = refl;
+  zeros = refl;
+  merges = refl;
+  stays = refl;
+  onePacket = refl;
+  fourPackets = refl;
+}
