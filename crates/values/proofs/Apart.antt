@@ -19,7 +19,8 @@ use Rattle.fields.proofs.LawfulFields.{lawful-number, lawful-choice, lawful-tex
 use Rattle.values.specs.Value.{Value, leaf, array, struct, Items, noItem, item, Members, noMember, member}
 use Rattle.values.specs.Value.{text as string}
 use Rattle.values.specs.File.{enclosed, bytesLeft, itemList, memberList, kindByte, leafBytes, arrayItems, structMembers, stringBytes, items, members, afterKind, content, tooDeep, value, mostLevels, valueOf, fieldsVerdict, valueFile}
-use Rattle.values.specs.Alike.{isAgain, pastValue, kindAt, countPlace, itemsAlike, membersAlike, kindAlike, alikeWithin, apart, itemsApart, membersApart}
+use Rattle.repeats.specs.Repeats.{isAgain}
+use Rattle.values.specs.Alike.{pastValue, kindAt, countPlace, itemsAlike, membersAlike, kindAlike, alikeWithin, apart, itemsApart, membersApart}
 use Rattle.values.proofs.Closing.{closing-bytes-left}
 use Rattle.values.proofs.Laid.{laid}
 use Rattle.values.proofs.Round.{lawful-enclosed, fields-accepted}

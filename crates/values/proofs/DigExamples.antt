@@ -16,7 +16,8 @@ use Rattle.fields.specs.declared.Refusal.the-variants.{OutOfFile, NotAllowed, O
 use Rattle.plans.specs.Plans.{afterByte, step}
 use Rattle.values.specs.Value.{leaf, nth, firstMember, memberNamed, stepInto, leads}
 use Rattle.values.specs.File.{runsPast, inside, enclosed, bytesLeft, itemsOf, membersOf, items, members, afterKind, content, tooDeep, value, valueOf, fieldsVerdict, sized, itemCount, memberCount, layout, layItems, layMembers, valueFile}
-use Rattle.values.specs.Alike.{isAgain, pastValue, kindAt, countPlace, itemsAlike, membersAlike, kindAlike, alikeWithin, valueVerdict}
+use Rattle.repeats.specs.Repeats.{isAgain}
+use Rattle.values.specs.Alike.{pastValue, kindAt, countPlace, itemsAlike, membersAlike, kindAlike, alikeWithin, valueVerdict}
 use Rattle.values.specs.Dig.{pathOf, pathVerdict, digVerdict, cutOf, countAt, firstPlace, itemPlaces, namePlaces, findName, memberPlace, itemPlace, stepPlace, digPlace}
 use Rattle.values.specs.Told.{dugTold, dugOf, cutBytes}
 use Rattle.values.specs.declared.Dug.the-variants.{At, NotThere}

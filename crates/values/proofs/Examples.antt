@@ -15,7 +15,8 @@ use Rattle.fields.specs.declared.Refusal.the-variants.{FileTooLong, BadVersion,
 use Rattle.values.specs.Value.{Value, leaf, array, struct, noItem, item, noMember, member}
 use Rattle.values.specs.Value.{text as string}
 use Rattle.values.specs.File.{runsPast, inside, enclosed, bytesLeft, itemList, itemsOf, memberList, membersOf, kindByte, leafBytes, arrayItems, structMembers, stringBytes, items, members, afterKind, content, tooDeep, value, valueOf, fieldsVerdict, sized, itemCount, memberCount, layout, layItems, layMembers, valueFile}
-use Rattle.values.specs.Alike.{isAgain, pastValue, kindAt, countPlace, itemsAlike, membersAlike, kindAlike, alikeWithin, valueVerdict, apart, itemsApart, membersApart}
+use Rattle.repeats.specs.Repeats.{isAgain}
+use Rattle.values.specs.Alike.{pastValue, kindAt, countPlace, itemsAlike, membersAlike, kindAlike, alikeWithin, valueVerdict, apart, itemsApart, membersApart}
 
 -- opens every definition that the check, the reading and the layout of a value need
 computing : Unit {0}

@@ -14,3 +14,6 @@ pub mod Stands
 pub mod Cutting
 pub mod Bodies
 pub mod DigExamples
+pub mod Placing
+pub mod Repeated
+pub mod Going

@@ -5,19 +5,15 @@ use mathlib.Core.Bool.{Bool, true, false, cond, _&&_}
 use mathlib.Core.List.{List, [], _∷_}
 use lib.Dec.{eqb}
 use lib.ListN.{length, take, drop}
-use Rattle.fields.specs.Text.{Text, same}
+use Rattle.fields.specs.Text.{Text}
 use Rattle.fields.specs.Format.{Verdict, fine, bad, first}
 use Rattle.fields.specs.Fields.{number, choice, text}
 use Rattle.fields.specs.Places.{valueAt, placeAt}
 use Rattle.fields.specs.declared.Refusal.the-variants.{NamesAlike}
+use Rattle.repeats.specs.Repeats.{isAgain}
 use Rattle.values.specs.Value.{Value, leaf, array, struct, Items, noItem, item, Members, noMember, member}
 use Rattle.values.specs.Value.{text as string}
 use Rattle.values.specs.File.{enclosed, bytesLeft, mostLevels, fieldsVerdict}
-
--- whether one of the earlier names is the same
-unfoldable pub isAgain : Text → List Text → Bool
-isAgain t [] = false
-isAgain t (u ∷ us) = let later = isAgain t us in cond (same t u) true later
 
 -- where the value at a place ends
 unfoldable pub pastValue : List ℕ → ℕ → ℕ

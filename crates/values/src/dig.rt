@@ -32,7 +32,7 @@ enum Place {
 }
 
 // Where the value at a place ends.
-fn value_past(s: &[u8], at: usize) -> usize
+pub fn value_past(s: &[u8], at: usize) -> usize
     ensures { λ r. ⌜ r ≡ pastValue (now (s .entry)) at ⌝ }
 {
     let n = raw(s, at, Width::Four);
@@ -41,7 +41,7 @@ fn value_past(s: &[u8], at: usize) -> usize
 }
 
 // The kind of the value at a place.
-fn kind_at(s: &[u8], at: usize) -> usize
+pub fn kind_at(s: &[u8], at: usize) -> usize
     ensures { λ r. ⌜ r ≡ kindAt (now (s .entry)) at ⌝ }
 {
     number_at(s, past(s, at, 4), Width::One, 3)
@@ -55,14 +55,14 @@ fn count_place(s: &[u8], at: usize) -> usize
 }
 
 // How many items or members the value at a place has.
-fn count_at(s: &[u8], at: usize) -> usize
+pub fn count_at(s: &[u8], at: usize) -> usize
     ensures { λ r. ⌜ r ≡ countAt (now (s .entry)) at ⌝ }
 {
     number_at(s, count_place(s, at), Width::Two, 65535)
 }
 
 // Where the first of them stands.
-fn first_place(s: &[u8], at: usize) -> usize
+pub fn first_place(s: &[u8], at: usize) -> usize
     ensures { λ r. ⌜ r ≡ firstPlace (now (s .entry)) at ⌝ }
 {
     past(s, count_place(s, at), 2)
@@ -92,7 +92,7 @@ fn item_place(s: &[u8], at: usize, n: usize) -> Place
 }
 
 // Past the member at a place: its name and its value.
-fn member_past(s: &[u8], at: usize) -> usize
+pub fn member_past(s: &[u8], at: usize) -> usize
     ensures { λ r. ⌜ r ≡ placeAt (text 128 then anyValue) (now (s .entry)) at ⌝ }
 {
     value_past(s, text_past(s, at))

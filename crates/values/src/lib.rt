@@ -2,6 +2,7 @@
 // says, and stays inside it.
 use fields::Refusal;
 
+pub mod alike;
 pub mod check;
 pub mod dig;
 
