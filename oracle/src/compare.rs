@@ -5,7 +5,7 @@ use std::collections::BTreeMap;
 
 use crate::guard::Lent;
 use crate::kinds::{self, Answer, Fields, Kind};
-use crate::library::{CALLS, Call, Library};
+use crate::library::{CALLS, Call, Library, Told};
 use crate::random::Random;
 use crate::table;
 
@@ -16,11 +16,25 @@ const SHOWN: usize = 3;
 /// What the output holds before the first call and before the second.
 const FILLS: [u8; 2] = [0xa5, 0x5a];
 
-/// A case with the room that its output gets.
+/// A case with the room that its output gets, and whether its inputs were spoilt.
 #[derive(Clone)]
 struct Trial {
     fields: Fields,
     room: usize,
+    spoilt: bool,
+}
+
+/// What a call must return, and the bytes that it must write.
+struct Right {
+    returned: Returned,
+    written: Vec<u8>,
+}
+
+/// A number, or what is known of a refusal.
+#[derive(Clone, Copy)]
+enum Returned {
+    Is(u64),
+    Refused(&'static [u8], u64),
 }
 
 /// A table of the cases and, at its end, the differences; false if there are any.
@@ -53,8 +67,9 @@ fn answer(kind: &Kind, call: &Call, fields: &Fields) -> Answer {
 
 /// A generated case, at times refused, with just enough room, more, or less.
 fn trial(random: &mut Random, kind: &Kind, call: &Call) -> Result<Trial, String> {
-    let mut fields = (kind.generate)(random);
-    if random.chance(4) {
+    let mut fields = call.generate.unwrap_or(kind.generate)(random);
+    let spoilt = random.chance(call.spoilt);
+    if spoilt {
         (call.spoil)(random, &mut fields);
     }
     let needed = match (call.refusal)(&fields) {
@@ -68,7 +83,7 @@ fn trial(random: &mut Random, kind: &Kind, call: &Call) -> Result<Trial, String>
         _ => needed.saturating_sub(1),
     };
     let room = if random.chance(2) { 0 } else { room };
-    Ok(Trial { fields, room })
+    Ok(Trial { fields, room, spoilt })
 }
 
 fn shown(kind: &Kind, call: &Call, trial: &Trial) -> Vec<&'static str> {
@@ -86,53 +101,75 @@ fn shown(kind: &Kind, call: &Call, trial: &Trial) -> Vec<&'static str> {
         features.when(trial.room + 1 == answer.len(), "room: one byte short");
         features.when(trial.room == 0, "room: none");
     }
+    features.when(trial.spoilt, "spoilt, and not refused");
     features.0
 }
 
-/// What the call must return and the bytes that it must write; None if the Rust has no answer.
-fn expected(kind: &Kind, call: &Call, trial: &Trial) -> Option<(u64, Vec<u8>)> {
+/// What is right for a case; None if the Rust has no answer.
+fn expected(kind: &Kind, call: &Call, trial: &Trial) -> Option<Right> {
+    let nothing = |returned| Some(Right { returned, written: vec![] });
     if let Some(refusal) = (call.refusal)(&trial.fields) {
-        return Some((u64::from(refusal.number) << 56 | refusal.returned, vec![]));
+        return nothing(match refusal.told {
+            Told::Exactly(number, returned) => Returned::Is(u64::from(number) << 56 | returned),
+            Told::Among(numbers, most) => Returned::Refused(numbers, most),
+        });
     }
     let answer = answer(kind, call, &trial.fields).ok()?;
     if !call.writes {
-        let returned = answer.iter().fold(0, |n, b| n << 8 | u64::from(*b));
-        return Some((returned, vec![]));
+        return nothing(Returned::Is(answer.iter().fold(0, |n, b| n << 8 | u64::from(*b))));
     }
     let needed = answer.len() as u64;
     if answer.len() > trial.room {
-        return Some((9 << 56 | needed, vec![]));
+        return nothing(Returned::Is(9 << 56 | needed));
     }
-    Some((needed, answer))
+    Some(Right { returned: Returned::Is(needed), written: answer })
 }
 
-/// What the library does otherwise, if anything, at the first call or at the second.
+/// What the library does otherwise, if anything, at the first call or at the second. The second has to return what the
+/// first did.
 fn difference(library: &Library, kind: &Kind, call: &Call, trial: &Trial) -> Option<String> {
-    let (returned, written) = expected(kind, call, trial)?;
-    FILLS.iter().find_map(|fill| called(library, call, trial, *fill, (returned, &written)))
+    let mut right = expected(kind, call, trial)?;
+    for fill in FILLS {
+        match called(library, call, trial, fill, &right) {
+            Ok(got) => right.returned = Returned::Is(got),
+            Err(how) => return Some(how),
+        }
+    }
+    None
 }
 
 /// One call, with an output that holds the fill everywhere; what is not written must stay so.
-fn called(library: &Library, call: &Call, trial: &Trial, fill: u8, right: (u64, &[u8])) -> Option<String> {
-    let (returned, written) = right;
+fn called(library: &Library, call: &Call, trial: &Trial, fill: u8, right: &Right) -> Result<u64, String> {
     let mut out = Lent::new(&vec![fill; trial.room], !fill);
-    let got = match (call.call)(library, &trial.fields, &mut out) {
-        Ok(got) => got,
-        Err(message) => return Some(message),
-    };
+    let got = (call.call)(library, &trial.fields, &mut out)?;
     if !out.guarded() {
-        return Some("bytes beside the output were changed".to_owned());
+        return Err("bytes beside the output were changed".to_owned());
     }
-    if got != returned {
-        return Some(format!("returned {}, not {}", number(got), number(returned)));
+    returned(got, right.returned)?;
+    let content = right.written.iter().chain(std::iter::repeat(&fill));
+    match out.content().iter().zip(content).enumerate().find(|(_, (a, b))| a != b) {
+        Some((place, (wrong, right))) => Err(format!("byte {place} of the output is {wrong}, not {right}")),
+        None => Ok(got),
     }
-    let content = written.iter().chain(std::iter::repeat(&fill));
-    let (place, (wrong, right)) = out.content().iter().zip(content).enumerate().find(|(_, (a, b))| a != b)?;
-    Some(format!("byte {place} of the output is {wrong}, not {right}"))
+}
+
+fn returned(got: u64, right: Returned) -> Result<(), String> {
+    let wrong = |right: String| Err(format!("returned {}, not {right}", number(got)));
+    match right {
+        Returned::Is(right) if got != right => wrong(number(right)),
+        Returned::Refused(numbers, most) if !numbers.iter().any(|n| u64::from(*n) == got >> 56) || low(got) > most => {
+            wrong(format!("at most {most} with a number of {numbers:?}"))
+        }
+        _ => Ok(()),
+    }
+}
+
+fn low(returned: u64) -> u64 {
+    returned & ((1 << 56) - 1)
 }
 
 fn number(returned: u64) -> String {
-    format!("{} with number {}", returned & ((1 << 56) - 1), returned >> 56)
+    format!("{} with number {}", low(returned), returned >> 56)
 }
 
 /// The smallest case that still differs, and how.
@@ -152,7 +189,7 @@ fn shrink(library: &Library, kind: &Kind, call: &Call, mut trial: Trial) -> Tria
         let mut found = None;
         for fields in (kind.smaller)(&trial.fields) {
             let candidates = rooms(kind, call, &fields, trial.room);
-            let smaller = candidates.into_iter().map(|room| Trial { fields: fields.clone(), room });
+            let smaller = candidates.into_iter().map(|room| Trial { fields: fields.clone(), room, ..trial });
             found = smaller.into_iter().find(|t| difference(library, kind, call, t).is_some());
             if found.is_some() {
                 break;

@@ -4,6 +4,7 @@ use super::compare;
 use crate::catalog::Catalog;
 use crate::library::{Library, struct_part};
 use crate::packed::tests::{chunks, packets};
+use crate::planned::tests::plan_chunks;
 use crate::{lookup, names, worst};
 
 type Answer = fn(&[u8]) -> Result<Vec<u8>, String>;
@@ -89,7 +90,7 @@ unsafe extern "C" fn catalog(file: *const u8, size: usize) -> u64 {
 }
 
 pub(crate) const RIGHT: Library =
-    Library { tokens, strip, range, catalog, request_size, reply_size, struct_size, chunks, packets };
+    Library { tokens, strip, range, catalog, request_size, reply_size, struct_size, chunks, packets, plan_chunks };
 
 pub(crate) fn run(library: Library, kind: &str) -> (String, bool) {
     let (lines, same) = compare(&library, kind, 4000, 1).expect("the comparison runs");
@@ -98,7 +99,9 @@ pub(crate) fn run(library: Library, kind: &str) -> (String, bool) {
 
 #[test]
 fn the_oracle_does_not_differ_from_itself() {
-    for kind in ["tokens", "strip", "range", "request_size", "reply_size", "struct_size", "chunks", "packets"] {
+    for kind in
+        ["tokens", "strip", "range", "request_size", "reply_size", "struct_size", "chunks", "packets", "plan_chunks"]
+    {
         let (text, same) = run(RIGHT, kind);
         assert!(same, "{text}");
         assert!(text.contains("0 differences in 4000 cases"));

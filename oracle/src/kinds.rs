@@ -119,7 +119,7 @@ pub const KINDS: &[Kind] = &[
         answer: |f| groups::plan_chunks(&f[0], &f[1], budget(&f[2])?),
         features: plan_chunks_features,
         hand: hand::packing::plans,
-        smaller: smaller::bytes,
+        smaller: smaller::plan_chunks,
         stored: 300,
     },
     Kind {

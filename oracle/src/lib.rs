@@ -34,6 +34,7 @@ pub mod lookup;
 pub mod names;
 pub mod packed;
 pub mod plan;
+pub mod planned;
 pub mod random;
 pub mod results;
 pub mod smaller;

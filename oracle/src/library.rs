@@ -2,8 +2,10 @@
 //! number, 0 for done, the low 56 bits are what is returned.
 
 use crate::guard::Lent;
+use crate::kinds::Fields;
 use crate::names::LONGEST;
 use crate::packed::{self, ChunksCall, PacketsCall};
+use crate::planned::{self, PlannedCall};
 use crate::random::Random;
 
 /// A call with one input and an output, each a pointer and a length.
@@ -27,15 +29,23 @@ pub struct Library {
     pub struct_size: LookupCall,
     pub chunks: ChunksCall,
     pub packets: PacketsCall,
+    pub plan_chunks: PlannedCall,
 }
 
 /// What a call returned, or what it changed that it may not change.
 pub type Returned = Result<u64, String>;
 
-/// A refusal's number, what it returns, and the cause as the table of cases names it.
+/// What is known of a refusal: its number and what it returns, or only which numbers it may have and the most that it
+/// may return.
+#[derive(Clone, Copy, Debug, PartialEq, Eq)]
+pub enum Told {
+    Exactly(u8, u64),
+    Among(&'static [u8], u64),
+}
+
+/// A refusal, and the cause as the table of cases names it.
 pub struct Refusal {
-    pub number: u8,
-    pub returned: u64,
+    pub told: Told,
     pub cause: &'static str,
 }
 
@@ -52,8 +62,12 @@ pub struct Call {
     pub writes: bool,
     /// The refusal that comes before the output is looked at.
     pub refusal: fn(&[Vec<u8>]) -> Option<Refusal>,
-    /// A change that brings an input to a limit, mostly over it.
+    /// A change that brings an input to a limit, mostly over it, or damages it.
     pub spoil: fn(&mut Random, &mut [Vec<u8>]),
+    /// How many cases in a hundred are spoilt.
+    pub spoilt: usize,
+    /// How its cases are made, where that is not how the kind's stored ones are.
+    pub generate: Option<fn(&mut Random) -> Fields>,
 }
 
 /// A further call of the library is added here, with its function in `Library`.
@@ -66,6 +80,8 @@ pub const CALLS: &[Call] = &[
         writes: true,
         refusal: too_long,
         spoil: lengthen,
+        spoilt: 4,
+        generate: None,
     },
     Call {
         name: "strip",
@@ -75,6 +91,8 @@ pub const CALLS: &[Call] = &[
         writes: true,
         refusal: |_| None,
         spoil: lengthen,
+        spoilt: 4,
+        generate: None,
     },
     Call {
         name: "range",
@@ -84,6 +102,8 @@ pub const CALLS: &[Call] = &[
         writes: true,
         refusal: too_long,
         spoil: lengthen,
+        spoilt: 4,
+        generate: None,
     },
     Call {
         name: "request_size",
@@ -93,6 +113,8 @@ pub const CALLS: &[Call] = &[
         writes: false,
         refusal: too_long,
         spoil: lengthen,
+        spoilt: 4,
+        generate: None,
     },
     Call {
         name: "reply_size",
@@ -102,6 +124,8 @@ pub const CALLS: &[Call] = &[
         writes: false,
         refusal: too_long,
         spoil: lengthen,
+        spoilt: 4,
+        generate: None,
     },
     Call {
         name: "struct_size",
@@ -111,6 +135,8 @@ pub const CALLS: &[Call] = &[
         writes: false,
         refusal: too_long,
         spoil: lengthen,
+        spoilt: 4,
+        generate: None,
     },
     Call {
         name: "chunks",
@@ -120,6 +146,8 @@ pub const CALLS: &[Call] = &[
         writes: true,
         refusal: packed::refusal,
         spoil: packed::spoil,
+        spoilt: 4,
+        generate: None,
     },
     Call {
         name: "packets",
@@ -129,6 +157,19 @@ pub const CALLS: &[Call] = &[
         writes: false,
         refusal: packed::refusal,
         spoil: packed::spoil,
+        spoilt: 4,
+        generate: None,
+    },
+    Call {
+        name: "plan_chunks",
+        kind: "plan_chunks",
+        part: |answer| answer,
+        call: |library, fields, out| planned::plan_chunks(library.plan_chunks, fields, out),
+        writes: true,
+        refusal: planned::refusal,
+        spoil: planned::damage,
+        spoilt: 30,
+        generate: Some(planned::generate),
     },
 ];
 
@@ -164,7 +205,7 @@ pub fn looked_up(function: LookupCall, fields: &[Vec<u8>]) -> Returned {
 
 /// The name is the last input.
 fn too_long(fields: &[Vec<u8>]) -> Option<Refusal> {
-    let refusal = Refusal { number: 5, returned: 0, cause: "refused: a name too long" };
+    let refusal = Refusal { told: Told::Exactly(5, 0), cause: "refused: a name too long" };
     (fields[fields.len() - 1].len() > LONGEST).then_some(refusal)
 }
 
@@ -191,6 +232,15 @@ pub fn linked() -> Result<Library, String> {
         fn ruvangixo_chunks(t: *const u64, n: usize, u: *const u64, m: usize, b: u16, out: *mut u8, room: usize)
         -> u64;
         fn ruvangixo_packets(t: *const u64, n: usize, u: *const u64, m: usize, b: u16) -> u64;
+        fn ruvangixo_plan_chunks(
+            c: *const u8,
+            n: usize,
+            p: *const u8,
+            m: usize,
+            b: u16,
+            out: *mut u8,
+            room: usize,
+        ) -> u64;
     }
     Ok(Library {
         tokens: ruvangixo_tokens,
@@ -202,6 +252,7 @@ pub fn linked() -> Result<Library, String> {
         struct_size: ruvangixo_struct_size,
         chunks: ruvangixo_chunks,
         packets: ruvangixo_packets,
+        plan_chunks: ruvangixo_plan_chunks,
     })
 }
 

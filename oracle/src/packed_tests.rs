@@ -7,7 +7,7 @@ use super::{LARGEST, MOST, refusal};
 use crate::bytes::table_bytes;
 use crate::compare::tests::{RIGHT, run};
 use crate::groups;
-use crate::library::Library;
+use crate::library::{Library, Told};
 
 /// A lent table.
 type Table = (*const u64, usize);
@@ -18,8 +18,16 @@ unsafe fn fields(t: Table, u: Table, budget: u16) -> Vec<Vec<u8>> {
     vec![bytes(t), bytes(u), budget.to_be_bytes().to_vec()]
 }
 
+/// The refusal of two tables: its number and what it returns.
+fn told(fields: &[Vec<u8>]) -> Option<(u8, u64)> {
+    match refusal(fields)?.told {
+        Told::Exactly(number, returned) => Some((number, returned)),
+        Told::Among(..) => panic!("a refusal of tables is known exactly"),
+    }
+}
+
 fn refused(fields: &[Vec<u8>]) -> Option<u64> {
-    refusal(fields).map(|r| u64::from(r.number) << 56 | r.returned)
+    told(fields).map(|(number, returned)| u64::from(number) << 56 | returned)
 }
 
 pub(crate) unsafe extern "C" fn chunks(
@@ -147,7 +155,7 @@ fn refusal_of(counts: (usize, usize), first: Option<usize>, second: Option<usize
         table_bytes(&entries)
     };
     let fields = [table(counts.0, first), table(counts.1, second), vec![0, 64]];
-    refusal(&fields).map(|r| (r.number, r.returned))
+    told(&fields)
 }
 
 #[test]

@@ -44,6 +44,21 @@ pub fn tables(fields: &[Vec<u8>]) -> Vec<Fields> {
         .collect()
 }
 
+/// The plan with reads fewer or without a read's members, the catalog with a tag, type or member fewer, or either file
+/// with bytes dropped.
+pub fn plan_chunks(fields: &[Vec<u8>]) -> Vec<Fields> {
+    let reads = plan::read(&fields[1]).unwrap_or_default();
+    let mut plans: Vec<_> = dropped(&reads).collect();
+    for place in (0..reads.len()).filter(|place| !reads[*place].members.is_empty()) {
+        let mut smaller = reads.clone();
+        smaller[place].members.clear();
+        plans.push(smaller);
+    }
+    let plans = plans.iter().map(|smaller| replaced(fields, 1, plan::write(smaller)));
+    let bytes = (0..2).flat_map(|place| dropped(&fields[place]).map(move |smaller| replaced(fields, place, smaller)));
+    plans.chain(catalogs(fields)).chain(bytes).collect()
+}
+
 /// A plan with one read's members fewer. Reads and results go together, so both stay as many.
 pub fn sort(fields: &[Vec<u8>]) -> Vec<Fields> {
     let (Ok(reads), Ok(_)) = (plan::read(&fields[0]), results::read(&fields[1])) else {

@@ -1,0 +1,154 @@
+//! The comparison of the call over a catalog and a plan, held against the oracle itself and against calls that do
+//! something wrong.
+
+use std::sync::atomic::{AtomicU64, Ordering};
+
+use crate::compare::tests::{RIGHT, run};
+use crate::groups;
+use crate::library::Library;
+use crate::planned::PlannedCall;
+
+/// A lent file.
+type File = (*const u8, usize);
+
+fn written(answer: &[u8], out: *mut u8, room: usize) -> u64 {
+    if answer.len() > room {
+        return 9 << 56 | answer.len() as u64;
+    }
+    unsafe { std::slice::from_raw_parts_mut(out, answer.len()) }.copy_from_slice(answer);
+    answer.len() as u64
+}
+
+unsafe fn answer(catalog: File, plan: File, budget: u16) -> Result<Vec<u8>, String> {
+    let bytes = |file: File| unsafe { std::slice::from_raw_parts(file.0, file.1) };
+    groups::plan_chunks(bytes(catalog), bytes(plan), budget)
+}
+
+pub(crate) unsafe extern "C" fn plan_chunks(
+    c: *const u8,
+    n: usize,
+    p: *const u8,
+    m: usize,
+    budget: u16,
+    out: *mut u8,
+    room: usize,
+) -> u64 {
+    match unsafe { answer((c, n), (p, m), budget) } {
+        Ok(answer) => written(&answer, out, room),
+        Err(_) => 3 << 56,
+    }
+}
+
+/// Writes before it refuses a file.
+unsafe extern "C" fn hasty(
+    c: *const u8,
+    n: usize,
+    p: *const u8,
+    m: usize,
+    budget: u16,
+    out: *mut u8,
+    room: usize,
+) -> u64 {
+    let returned = unsafe { plan_chunks(c, n, p, m, budget, out, room) };
+    if returned >> 56 == 3 && room > 0 {
+        unsafe { *out = 1 };
+    }
+    returned
+}
+
+/// Takes a byte behind the plan.
+unsafe extern "C" fn lax(
+    c: *const u8,
+    n: usize,
+    p: *const u8,
+    m: usize,
+    budget: u16,
+    out: *mut u8,
+    room: usize,
+) -> u64 {
+    let returned = unsafe { plan_chunks(c, n, p, m, budget, out, room) };
+    match returned >> 56 == 3 && m > 1 {
+        true => unsafe { plan_chunks(c, n, p, m - 1, budget, out, room) },
+        false => returned,
+    }
+}
+
+/// Refuses a file with another place at every other call.
+unsafe extern "C" fn fickle(
+    c: *const u8,
+    n: usize,
+    p: *const u8,
+    m: usize,
+    budget: u16,
+    out: *mut u8,
+    room: usize,
+) -> u64 {
+    static CALLS: AtomicU64 = AtomicU64::new(0);
+    let returned = unsafe { plan_chunks(c, n, p, m, budget, out, room) };
+    match returned >> 56 == 3 && n > 0 && m > 0 {
+        true => returned + CALLS.fetch_add(1, Ordering::Relaxed) % 2,
+        false => returned,
+    }
+}
+
+/// Refuses with a place past the end.
+unsafe extern "C" fn far(
+    c: *const u8,
+    n: usize,
+    p: *const u8,
+    m: usize,
+    budget: u16,
+    out: *mut u8,
+    room: usize,
+) -> u64 {
+    match unsafe { plan_chunks(c, n, p, m, budget, out, room) } {
+        returned if returned >> 56 == 3 => returned + n.max(m) as u64 + 1,
+        returned => returned,
+    }
+}
+
+/// Takes a budget one larger.
+unsafe extern "C" fn roomy(
+    c: *const u8,
+    n: usize,
+    p: *const u8,
+    m: usize,
+    budget: u16,
+    out: *mut u8,
+    room: usize,
+) -> u64 {
+    unsafe { plan_chunks(c, n, p, m, budget.saturating_add(1), out, room) }
+}
+
+fn wrong(call: PlannedCall) -> String {
+    let (text, same) = run(Library { plan_chunks: call, ..RIGHT }, "plan_chunks");
+    assert!(!same, "{text}");
+    text
+}
+
+#[test]
+fn every_kind_of_damage_is_among_the_cases() {
+    let (text, same) = run(RIGHT, "plan_chunks");
+    assert!(same, "{text}");
+    for what in ["the plan |", "the catalog |", "bad too", "spoilt, and not refused", "one byte short", "room: none"] {
+        assert!(text.contains(what), "{what}");
+    }
+    for what in ["not found", "no tokens", "a range of structs", "a range of bits", "more than 100 reads"] {
+        assert!(text.contains(what), "{what}");
+    }
+}
+
+#[test]
+fn wrong_refusals_are_found() {
+    assert!(wrong(hasty).contains("byte 0 of the output is 1"));
+    assert!(wrong(lax).contains("with a number of"));
+    assert!(wrong(fickle).contains("with number 3, not"));
+    assert!(wrong(far).contains("not at most"));
+}
+
+#[test]
+fn a_wrong_packing_is_found_and_made_small() {
+    let text = wrong(roomy);
+    let smallest = text.lines().filter_map(|l| l.trim().strip_prefix("PLAN ")).map(str::len).min();
+    assert!(smallest.is_some_and(|length| length < 60), "{text}");
+}
