@@ -3,13 +3,15 @@
 mod common;
 
 use common::{plan_lines, reads};
+use oracle::catalog::Catalog;
 use oracle::hand::catalogs::{bench, bench_with_motor, nested};
 use oracle::hand::plans::list;
-use oracle::hand::shapes::texts;
+use oracle::hand::shapes::{atomic, texts, with_id};
 use oracle::list::List;
+use oracle::planner::reach::{pack, read_size, request_size};
 
 /// The names of the reads.
-fn names(catalog: &oracle::catalog::Catalog, list: &List) -> Vec<String> {
+fn names(catalog: &Catalog, list: &List) -> Vec<String> {
     reads(catalog, list).into_iter().map(|r| r.name).collect()
 }
 
@@ -101,4 +103,22 @@ fn keys_sort_as_bytes_and_single_places_are_numbered() {
     let list = List { tags, budget: 52 + 22 * 12 + 388, ..list(&[]) };
     let merged: Vec<String> = names(&bench(), &list).into_iter().filter(|n| n.contains('{')).collect();
     assert_eq!(merged, ["Trend[10000]{101}"]);
+}
+
+/// A run is asked for by its first element `A[0]`, by instance id, and not by its own name `A[0]{2}`, which has no
+/// tokens and would be spelled out. Both elements fill one packet to the byte, so they merge only if the run takes one
+/// too: spelled out it would go alone, in three packets. It is no stored case: among them it would shift the lists
+/// that are taken from every seventh.
+#[test]
+fn a_run_is_sized_by_its_first_element() {
+    let array = "L".repeat(60);
+    let catalog = Catalog { tags: vec![with_id(300, atomic(&array, "SINT", &[1000]))], types: vec![] };
+    let (first, second, run) = (format!("{array}[0]"), format!("{array}[1]"), format!("{array}[0]{{2}}"));
+    let list = List { tags: vec![first.clone(), second.clone()], budget: 70, ..list(&[]) };
+    assert_eq!(plan_lines(&catalog, &list), [format!("{run} <- {first} at [0], {second} at [1]")]);
+    let rust = catalog.to_rust();
+    assert_eq!([&first, &second].map(|tag| read_size(tag, &rust)), [(14, 9); 2]);
+    assert_eq!((read_size(&run, &rust), request_size(&run, &rust)), ((14, 10), 76));
+    let packets = |sizes: &[(usize, usize)]| pack(sizes, 70).1;
+    assert_eq!([packets(&[(14, 9); 2]), packets(&[(14, 10)]), packets(&[(76, 10)])], [1, 1, 3]);
 }
