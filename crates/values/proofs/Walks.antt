@@ -78,14 +78,17 @@ module _ {A : Type 0} (f : Format A) (F : Along f) (s : List ℕ) where
   row-less zero i q h e = absurd (omega arith)
   row-less (suc k) i q h e = let z : suc k - 1 ≡ k = omega arith in rw (z, e) (sym (row-place k i))
 
--- `all` is the end of all, and `k` are left at `at`
-module _ (s : List ℕ) (at k all : ℕ) (left : placeAt (many anyValue k) s at ≡ all) where
-  pub values-end : k ≤ 0 → at ≡ all
-  values-end h = sym (many-place-none anyValue s at k h) ∙ left
+pub values-start : (s : List ℕ) (from n : ℕ) → placeAt (many anyValue (n - 0)) s from ≡ placeAt (many anyValue n) s from
+values-start s from n = let z : n - 0 ≡ n = omega arith in rw z
 
-  pub values-less : (q : ℕ) → 0 < k → q ≡ pastValue s at → placeAt (many anyValue (k - 1)) s q ≡ all
+-- `all` is the end of `n` values, of which `i` were passed
+module _ (s : List ℕ) (at n i all : ℕ) (left : placeAt (many anyValue (n - i)) s at ≡ all) where
+  pub values-end : n ≤ i → at ≡ all
+  values-end h = sym (many-place-none anyValue s at (n - i) (omega arith)) ∙ left
+
+  pub values-less : (q : ℕ) → i < n → q ≡ pastValue s at → placeAt (many anyValue (n - (i + 1))) s q ≡ all
   unfolding pastValue
-  values-less q h e = row-less anyValue (along-enclosed bytesLeft) s k at q h e ∙ left
+  values-less q h e = let z : n - (i + 1) ≡ n - i - 1 = omega arith in rw z (row-less anyValue (along-enclosed bytesLeft) s (n - i) at q (omega arith) e ∙ left)
 
 -- ---- an item: `c` is the count, `p` the place of the first
 module _ (s : List ℕ) (at n c : ℕ) (e : c ≡ countAt s at) where

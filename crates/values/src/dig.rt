@@ -73,10 +73,10 @@ fn values_past(s: &[u8], from: usize, n: usize) -> usize
     ensures { λ r. ⌜ r ≡ placeAt (many anyValue n) (now (s .entry)) from ⌝ }
 {
     let mut at = from;
-    let mut k = n;
-    while 0 < k {
+    let mut i = 0;
+    while i < n {
         at = value_past(s, at);
-        k -= 1;
+        i += 1;
     }
     at
 }
