@@ -11,3 +11,10 @@ pub mod Shrinks
 pub mod Computing
 pub mod Bench
 pub mod Stored
+pub mod Small
+pub mod Items
+pub mod Listed
+pub mod Names
+pub mod Paths
+pub mod Bytes
+pub mod Writable

@@ -36,7 +36,7 @@ load f rs = weighed f (servedBy rs)
 
 -- ---- a merge keeps the weight
 module _ (f : ℕ → ℕ) where
-  weighed-append : (a b : List ℕ) → weighed f (a ++ b) ≡ weighed f a + weighed f b
+  pub weighed-append : (a b : List ℕ) → weighed f (a ++ b) ≡ weighed f a + weighed f b
   unfolding weighed
   weighed-append [] b = omega arith
   weighed-append (p ∷ a) b = omega (arith, weighed-append a b)
@@ -61,11 +61,11 @@ module _ (f : ℕ → ℕ) where
 
 -- ---- positions
 -- of plain reads, by what each position weighs
-plain-none : (f : ℕ → ℕ) (c : Catalog) (i : ℕ) → load f (plainFrom c i []) ≡ 0
+pub plain-none : (f : ℕ → ℕ) (c : Catalog) (i : ℕ) → load f (plainFrom c i []) ≡ 0
 unfolding load weighed servedBy joined plainFrom
 plain-none f c i = refl
 
-plain-more : (f : ℕ → ℕ) (c : Catalog) (i : ℕ) (t : Text) (ts : List Text) → load f (plainFrom c i (t ∷ ts)) ≡ f i + load f (plainFrom c (i + 1) ts)
+pub plain-more : (f : ℕ → ℕ) (c : Catalog) (i : ℕ) (t : Text) (ts : List Text) → load f (plainFrom c i (t ∷ ts)) ≡ f i + load f (plainFrom c (i + 1) ts)
 unfolding load weighed servedBy joined plainFrom
 plain-more f c i t ts = refl
 

@@ -78,7 +78,7 @@ module _ (g : Given) where
   serves-one none r h = rw (h .serves) (omega arith)
   serves-one (some k) r h = omega (arith, h .two)
 
-  served-many : (rs : List Pending) → All (Shaped g) rs → length rs ≤ length (servedBy rs)
+  pub served-many : (rs : List Pending) → All (Shaped g) rs → length rs ≤ length (servedBy rs)
   unfolding servedBy joined
   served-many [] h = omega arith
   served-many (r ∷ rs) h = omega (arith, length-append (r .serves) (servedBy rs), serves-one (r .group) r (h .0), served-many rs (h .1))

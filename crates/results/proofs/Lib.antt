@@ -1,0 +1,13 @@
+pub mod Examples
+pub mod Statuses
+pub mod Members
+pub mod Showing
+pub mod Putting
+pub mod Entries
+pub mod Turning
+pub mod Failing
+pub mod Onward
+pub mod Inside
+pub mod Counting
+pub mod Pairing
+pub mod Filing

@@ -1,0 +1,3 @@
+pub mod Results
+pub mod Sorting
+pub mod Told
