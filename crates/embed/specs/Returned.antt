@@ -10,6 +10,8 @@ use Rattle.fields.specs.declared.Written.{Written}
 use Rattle.fields.specs.declared.Written.the-variants.{Done, Refused}
 use Rattle.packing.specs.declared.Counted.{Counted}
 use Rattle.packing.specs.declared.Counted.the-variants.{Packets, Refused as Uncounted}
+use Rattle.values.specs.declared.Dug.{Dug}
+use Rattle.values.specs.declared.Dug.the-variants.{At, NotThere, Refused as Undug}
 use Rattle.queries.specs.declared.Measured.{Measured}
 use Rattle.queries.specs.declared.Measured.the-variants.{Bytes, Refused as Unmeasured}
 use Rattle.queries.specs.declared.WholeSize.{WholeSize}
@@ -53,3 +55,9 @@ unfoldable pub wholeAs : WholeSize → ℕ
 wholeAs (Is n) = low n
 wholeAs Unknown = 2 ^ 56 - 1
 wholeAs (Unsized r) = refusedAs r
+
+-- the place of a cut's length field in its value file; 0 where there is none
+unfoldable pub dugAs : Dug → ℕ
+dugAs (At a e) = low a
+dugAs NotThere = 0
+dugAs (Undug r) = refusedAs r

@@ -9,6 +9,8 @@ use packing::Counted;
 use queries::Measured;
 use queries::WholeSize;
 use queries::check_catalog;
+use values::Dug;
+use values::cut::dig_place;
 ghost use mathlib.Core.Path.{_≡_};
 ghost use Prim.Native.Nat.{_<_};
 ghost use Rattle.fields.specs.Options.{andThen};
@@ -27,7 +29,9 @@ ghost use Rattle.packing.specs.Tables.{sizesOf, tablesVerdict};
 ghost use Rattle.packing.specs.Told.{countedOf};
 ghost use Rattle.queries.specs.Queries.{queryVerdict, measuredOf, wholeOf};
 ghost use Rattle.groups.specs.Groups.{groupsVerdict, planGroups};
-ghost use Rattle.embed.specs.Returned.{low, refusedAs, returned, checkedAs, packetsAs, requestAs, replyAs, wholeAs};
+ghost use Rattle.values.specs.Dig.{pathOf, digVerdict, digPlace};
+ghost use Rattle.values.specs.Told.{dugOf};
+ghost use Rattle.embed.specs.Returned.{low, refusedAs, returned, checkedAs, packetsAs, requestAs, replyAs, wholeAs, dugAs};
 
 // What fits into 56 bits.
 fn low_bits(n: usize) -> u64
@@ -171,5 +175,18 @@ pub extern "C" fn ruvangixo_packets(requests: &[u64], replies: &[u64], budget: u
     match v {
         Counted::Packets(n) => n % 72057594037927936,
         Counted::Refused(r) => refusal(r),
+    }
+}
+
+// The part that a path leads to in a value file. Returned: the place of its length field, 0 where there is none.
+#[no_mangle]
+pub extern "C" fn ruvangixo_dig(value: &[u8], path: &[u8]) -> u64
+    ensures { λ r. ⌜ r ≡ dugAs (dugOf (digVerdict (now (value .entry)) (now (path .entry))) (now (value .entry)) (digPlace (now (value .entry)) (pathOf (now (path .entry))) 1)) ⌝ }
+{
+    let d = dig_place(value, path);
+    match d {
+        Dug::At(start, _) => low_bits(start),
+        Dug::NotThere => 0,
+        Dug::Refused(r) => refusal(r),
     }
 }

@@ -19,6 +19,7 @@ pub enum Call {
     DamagedLists,
     DamagedPlans,
     Lists,
+    Dig,
 }
 
 // How many inputs a call takes.
@@ -38,6 +39,7 @@ pub fn input_count(call: Call) -> usize
         Call::DamagedLists => 2,
         Call::DamagedPlans => 2,
         Call::Lists => 1,
+        Call::Dig => 2,
     }
 }
 

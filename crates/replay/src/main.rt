@@ -29,6 +29,8 @@ use queries::check_catalog;
 use sizes::reply::element_size;
 use sizes::reply::read_size;
 use structs::whole_size;
+use values::Dug;
+use values::cut::dig_place;
 ghost use mathlib.Core.Path.{_≡_};
 ghost use lib.ListN.{length};
 ghost use Prim.Native.Nat.{_+_, _≤_};
@@ -208,6 +210,22 @@ fn put_plan_chunks(catalog: &[u8], plan: &[u8], budget: &[u8], out: &mut [u8]) -
     plan_chunks(catalog, plan, b, out)
 }
 
+// Writes the place that a path leads to in a value file, in 8 bytes: 0 where it leads nowhere.
+fn put_dig(value: &[u8], path: &[u8], out: &mut [u8]) -> Written {
+    let d = dig_place(value, path);
+    match d {
+        Dug::Refused(r) => Written::Refused(r),
+        Dug::NotThere => {
+            put_number(out, 0, Width::Eight, 0);
+            Written::Done(8)
+        }
+        Dug::At(start, _) => {
+            put_number(out, 0, Width::Eight, start as u64);
+            Written::Done(8)
+        }
+    }
+}
+
 // The call itself.
 fn made(call: Call, first: &[u8], second: &[u8], third: &[u8], out: &mut [u8]) -> Written {
     match call {
@@ -223,6 +241,7 @@ fn made(call: Call, first: &[u8], second: &[u8], third: &[u8], out: &mut [u8]) -
         Call::DamagedLists => Written::Done(put_verdict(check_list(first), out)),
         Call::DamagedPlans => Written::Done(put_verdict(check_plan(first), out)),
         Call::Lists => put_list(first, out),
+        Call::Dig => put_dig(first, second, out),
     }
 }
 
@@ -241,6 +260,7 @@ fn wants_catalog(call: Call) -> bool {
         Call::DamagedLists => false,
         Call::DamagedPlans => false,
         Call::Lists => false,
+        Call::Dig => false,
     }
 }
 
@@ -414,4 +434,5 @@ fn main() {
     run(Call::DamagedLists, b"damaged_lists.cases");
     run(Call::DamagedPlans, b"damaged_plans.cases");
     run(Call::Lists, b"lists.cases");
+    run(Call::Dig, b"dig.cases");
 }

@@ -31,12 +31,12 @@ use Rattle.values.proofs.Walks.{oneMember}
 use Rattle.values.proofs.Repeated.{alike-past, member-bad, member-fine, repeat-here}
 
 -- ---- what a verdict told was
-was-fine : (v : Verdict) (n p : ℕ) → told v n ≡ Good p → v ≡ fine
+pub was-fine : (v : Verdict) (n p : ℕ) → told v n ≡ Good p → v ≡ fine
 unfolding told
 was-fine fine n p e = refl
 was-fine (bad r) n p e = let z : _≡_ {A = ℕ} 0 1 = cc in absurd (omega arith)
 
-was-bad : (v : Verdict) (n : ℕ) (r : Refusal) → told v n ≡ Refused r → v ≡ bad r
+pub was-bad : (v : Verdict) (n : ℕ) (r : Refusal) → told v n ≡ Refused r → v ≡ bad r
 unfolding told
 was-bad fine n r e = let z : _≡_ {A = ℕ} 0 1 = cc in absurd (omega arith)
 was-bad (bad q) n r e = let z : q ≡ r = cc in ap bad z

@@ -17,3 +17,4 @@ pub mod DigExamples
 pub mod Placing
 pub mod Repeated
 pub mod Going
+pub mod Handed

@@ -7,11 +7,15 @@ use Rattle.values.specs.File.{layout}
 use Rattle.values.specs.Alike.{pastValue}
 use Rattle.values.specs.declared.Dug.{Dug}
 use Rattle.values.specs.declared.Dug.the-variants.{At, NotThere, Refused as Unfit}
+use Rattle.values.specs.declared.Outcome.{Outcome}
+use Rattle.values.specs.declared.Outcome.the-variants.{Found, NotThere as Missing, Refused as Declined}
 use Prim.Native.Nat.{ℕ}
+use mathlib.Core.Bool.{cond}
 use mathlib.Core.List.{List, []}
+use lib.Dec.{ltb}
 use lib.ListN.{length, drop}
 use Rattle.fields.specs.Files.{endingCheck}
-use Rattle.fields.specs.Places.{told}
+use Rattle.fields.specs.Places.{part, told}
 use Rattle.fields.specs.declared.Checked.{Checked}
 use Rattle.fields.specs.declared.Checked.the-variants.{Good, Refused}
 
@@ -35,3 +39,15 @@ unfoldable pub cutBytes : Verdict → Option Value → List ℕ
 cutBytes fine none = []
 cutBytes fine (some v) = layout v
 cutBytes (bad r) o = []
+
+-- the bytes from where a cut starts to where it ends; nothing where there is no part, and nothing where it is not inside the file
+unfoldable pub partTold : List ℕ → Dug → List ℕ
+partTold s (At a e) = cond (ltb e a) [] (cond (ltb (length s) e) [] (part a e s))
+partTold s NotThere = []
+partTold s (Unfit r) = []
+
+-- what became of a cut, without its places
+unfoldable pub outcomeOf : Dug → Outcome
+outcomeOf (At a e) = Found
+outcomeOf NotThere = Missing
+outcomeOf (Unfit r) = Declined r
