@@ -1,6 +1,6 @@
 //! The stored cases: one file a kind, a row of cases, each a row of fields behind a length of 4 bytes. Those made
 //! by hand come first, then generated ones that show something still rare, then any until there are enough. Damaged
-//! catalogs, lists and plans are files of their own, all made by hand; so are lists that are to be written anew.
+//! catalogs, lists and plans are files of their own, all made by hand; lists and plans to be written anew too.
 
 use std::collections::HashMap;
 use std::path::Path;
@@ -20,6 +20,9 @@ const FEW: usize = 12;
 /// How many lists are stored to be written anew, and from which cases of `plan`.
 const LISTS: usize = 120;
 const EVERY: usize = 7;
+/// The same for plans.
+const PLANS: usize = 120;
+const EVERY_PLAN: usize = 5;
 
 /// A file of stored cases.
 struct Stored {
@@ -91,7 +94,8 @@ fn files(seed: u64) -> Result<Vec<Stored>, String> {
     files.push(damaged_file("damaged", &damaged::catalogs::all()));
     files.push(damaged_file("damaged_lists", &damaged::lists::all()));
     files.push(damaged_file("damaged_plans", &damaged::plans::all()));
-    files.push(lists_file(&lists(seed)?));
+    files.push(anew_file("lists", &lists(seed)?));
+    files.push(anew_file("plans", &plans(seed)?));
     Ok(files)
 }
 
@@ -168,14 +172,32 @@ pub fn lists(seed: u64) -> Result<Vec<Vec<u8>>, String> {
     Ok(lists)
 }
 
-/// Each list is the answer too.
-fn lists_file(lists: &[Vec<u8>]) -> Stored {
-    let mut writer = Writer::default();
-    for list in lists {
-        put(&mut writer, list);
-        put(&mut writer, list);
+/// Plans to be written anew: those made by hand that are accepted, then answers of the stored cases of `plan`.
+pub fn plans(seed: u64) -> Result<Vec<Vec<u8>>, String> {
+    let kind = kinds::named("plan")?;
+    let mut plans: Vec<Vec<u8>> = Vec::new();
+    for case in damaged::plans::all().into_iter().filter(|case| case.number == 0) {
+        if !plans.contains(&case.file) {
+            plans.push(case.file);
+        }
     }
-    Stored { name: "lists.cases".to_owned(), cases: lists.len(), bytes: writer.file }
+    for case in choose(kind, seed)?.into_iter().step_by(EVERY_PLAN) {
+        let plan = (kind.answer)(&case)?;
+        if plans.len() < PLANS && !plans.contains(&plan) {
+            plans.push(plan);
+        }
+    }
+    Ok(plans)
+}
+
+/// Each file is the answer too.
+fn anew_file(name: &str, files: &[Vec<u8>]) -> Stored {
+    let mut writer = Writer::default();
+    for file in files {
+        put(&mut writer, file);
+        put(&mut writer, file);
+    }
+    Stored { name: format!("{name}.cases"), cases: files.len(), bytes: writer.file }
 }
 
 fn put(writer: &mut Writer, field: &[u8]) {

@@ -64,3 +64,12 @@ fn the_stored_lists_read_back() {
         assert_eq!(&List::read(list).expect("an accepted list").write(), list);
     }
 }
+
+#[test]
+fn the_stored_plans_read_back() {
+    let plans = store::plans(1).expect("the plans are accepted");
+    assert_eq!(plans.len(), 120);
+    for file in &plans {
+        assert_eq!(&plan::write(&plan::read(file).expect("an accepted plan")), file);
+    }
+}
