@@ -20,6 +20,7 @@ pub enum Call {
     DamagedPlans,
     Lists,
     Dig,
+    Plans,
 }
 
 // How many inputs a call takes.
@@ -40,6 +41,7 @@ pub fn input_count(call: Call) -> usize
         Call::DamagedPlans => 2,
         Call::Lists => 1,
         Call::Dig => 2,
+        Call::Plans => 1,
     }
 }
 

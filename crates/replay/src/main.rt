@@ -9,7 +9,10 @@ use fields::Checked;
 use fields::Part;
 use fields::Width;
 use fields::Written;
+use fields::check::text_at;
 use fields::check::text_past;
+use fields::number::number_at;
+use fields::number::past;
 use fields::number::raw;
 use fields::text::equal;
 use fields::write::put_bytes;
@@ -25,6 +28,12 @@ use packing::Counted;
 use packing::chunk::chunks;
 use packing::table::packets;
 use plans::check::check_plan;
+use plans::place::member_past;
+use plans::place::read_count;
+use plans::place::read_past;
+use plans::place::reads_start;
+use plans::write::put_member;
+use plans::write::put_read;
 use queries::check_catalog;
 use sizes::reply::element_size;
 use sizes::reply::read_size;
@@ -242,6 +251,7 @@ fn made(call: Call, first: &[u8], second: &[u8], third: &[u8], out: &mut [u8]) -
         Call::DamagedPlans => Written::Done(put_verdict(check_plan(first), out)),
         Call::Lists => put_list(first, out),
         Call::Dig => put_dig(first, second, out),
+        Call::Plans => put_plan(first, out),
     }
 }
 
@@ -261,6 +271,7 @@ fn wants_catalog(call: Call) -> bool {
         Call::DamagedPlans => false,
         Call::Lists => false,
         Call::Dig => false,
+        Call::Plans => false,
     }
 }
 
@@ -280,7 +291,7 @@ fn agrees(call: Call, first: &[u8], second: &[u8], third: &[u8], answer: &[u8]) 
             return false;
         }
     }
-    let mut out = [UNTOUCHED; 16640];
+    let mut out = [UNTOUCHED; 65536];
     let w = made(call, first, second, third, &mut out);
     wrote(w, &out, answer)
 }
@@ -365,6 +376,110 @@ fn put_list(s: &[u8], out: &mut [u8]) -> Written {
     }
 }
 
+// Where the path of the member at a place stands, key count and keys: nothing where it has none.
+fn path_at(s: &[u8], at: usize) -> Part
+    ensures { λ r. ⌜ (r .start ≤ r .end) × (r .end ≤ length (now (s .entry))) ⌝ }
+{
+    let flag = text_past(s, at);
+    let end = member_past(s, at);
+    if s.len() < end {
+        return Part { start: 0, end: 0 };
+    }
+    if end <= flag {
+        return Part { start: 0, end: 0 };
+    }
+    Part {
+        start: flag + 1,
+        end,
+    }
+}
+
+// Writes the member at a place of the plan. It answers the place past what is written; the same place where it does not fit.
+fn copy_member(s: &[u8], from: usize, out: &mut [u8], at: usize) -> usize {
+    let tag = text_at(s, from);
+    let a = tag.start;
+    let b = tag.end;
+    let path = path_at(s, from);
+    let c = path.start;
+    let d = path.end;
+    if out.len() <= at {
+        return at;
+    }
+    if out.len() - at < 2 {
+        return at;
+    }
+    if out.len() - at - 2 < b - a {
+        return at;
+    }
+    if out.len() - at - 2 - (b - a) < d - c {
+        return at;
+    }
+    let end = at + 2 + (b - a) + (d - c);
+    put_member(out, at, &s[a..b], &s[c..d]);
+    end
+}
+
+// Writes so many members from a place of the plan on. It answers the place past them.
+fn copy_members(s: &[u8], from: usize, count: usize, out: &mut [u8], start: usize) -> usize {
+    let mut p = from;
+    let mut at = start;
+    let mut k = count;
+    while 0 < k {
+        at = copy_member(s, p, out, at);
+        p = member_past(s, p);
+        k -= 1;
+    }
+    at
+}
+
+// Writes the read at a place of the plan, with its members. It answers the place past them; the same place where it does not fit.
+fn copy_read(s: &[u8], from: usize, out: &mut [u8], at: usize) -> usize {
+    let name = text_at(s, from);
+    let a = name.start;
+    let b = name.end;
+    let p = text_past(s, from);
+    let count = number_at(s, p, Width::Two, 256);
+    if out.len() <= at {
+        return at;
+    }
+    if out.len() - at < 3 {
+        return at;
+    }
+    if out.len() - at - 3 < b - a {
+        return at;
+    }
+    let start = at + 3 + (b - a);
+    put_read(out, at, &s[a..b], count as u16);
+    copy_members(s, past(s, p, 2), count, out, start)
+}
+
+// Writes so many reads, from the plan's first on. It answers the place past them.
+fn copy_reads(s: &[u8], count: usize, out: &mut [u8]) -> usize {
+    let mut p = reads_start(s);
+    let mut at = 3;
+    let mut k = count;
+    while 0 < k {
+        at = copy_read(s, p, out, at);
+        p = read_past(s, p);
+        k -= 1;
+    }
+    at
+}
+
+// The plan anew, if it is accepted.
+fn put_plan(s: &[u8], out: &mut [u8]) -> Written {
+    let v = check_plan(s);
+    match v {
+        Checked::Refused(r) => Written::Refused(r),
+        Checked::Good(_) => {
+            let count = read_count(s);
+            put_number(out, 0, Width::One, 1);
+            put_number(out, 1, Width::Two, count as u64);
+            Written::Done(copy_reads(s, count, out))
+        }
+    }
+}
+
 // The cases of a file: up to three inputs and an answer each.
 fn replay(call: Call, s: &[u8]) -> Tally {
     let inputs = input_count(call);
@@ -435,4 +550,5 @@ fn main() {
     run(Call::DamagedPlans, b"damaged_plans.cases");
     run(Call::Lists, b"lists.cases");
     run(Call::Dig, b"dig.cases");
+    run(Call::Plans, b"plans.cases");
 }
