@@ -81,6 +81,7 @@ unfoldable pub allRetry : List Member → List Entry
 allRetry [] = []
 allRetry (m ∷ ms) = retry ∷ allRetry ms
 
+-- the entries of a read that is not plain
 unfoldable pub otherEntries : List ℕ → Reply → List Member → List Entry
 otherEntries s (valueIn q) ms = entriesFrom s (valueIn q) ms
 otherEntries s inError ms = allRetry ms
@@ -102,6 +103,7 @@ isRetry (cut q) = false
 isRetry retry = true
 isRetry received = false
 
+-- whether one of several is
 unfoldable pub anyRetry : List Entry → Bool
 anyRetry [] = false
 anyRetry (e ∷ es) = let later = anyRetry es in cond (isRetry e) true later
@@ -139,27 +141,31 @@ pub record Sorted : Type 0 where
 unfoldable pub sortedOf : List ℕ → List ℕ → Sorted
 sortedOf plan s = record { entries = sortedEntries s (planOf plan) (repliesOf s); failures = failedFrom s 0 [] (planOf plan) (repliesOf s) }
 
--- an entry's first byte, and what it is made of
+-- an entry's first byte
 unfoldable pub entryByte : Entry → ℕ
 entryByte (cut q) = 0
 entryByte retry = 1
 entryByte received = 2
 
+-- the place of a cut
 unfoldable pub cutPlace : Entry → Option ℕ
 cutPlace (cut q) = some q
 cutPlace retry = none
 cutPlace received = none
 
+-- a retry
 unfoldable pub ifRetry : Entry → Option (Unit {0})
 ifRetry (cut q) = none
 ifRetry retry = some tt
 ifRetry received = none
 
+-- a result as received
 unfoldable pub ifReceived : Entry → Option (Unit {0})
 ifReceived (cut q) = none
 ifReceived retry = none
 ifReceived received = some tt
 
+-- what follows an entry's first byte
 unfoldable pub afterEntry : ℕ → Format Entry
 afterEntry zero = among cut cutPlace (number 4 4294967295)
 afterEntry (suc zero) = among (λ _. retry) ifRetry nothing
