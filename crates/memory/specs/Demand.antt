@@ -8,12 +8,13 @@ use mathlib.Core.List.{List, [], _∷_}
 use mathlib.Core.Option.{Option, none, some, Option·map}
 use Rattle.fields.specs.Text.{Text}
 use Rattle.catalog.specs.Catalog.{Catalog}
-use Rattle.plans.specs.Plans.{Step, Member, Read}
+use Rattle.plans.specs.Plans.{Step, Member, Read, steps}
 use Rattle.fields.specs.Places.{part}
 use Rattle.values.specs.Value.{Value, leads}
 use Rattle.values.specs.File.{layout}
 use Rattle.values.specs.Alike.{pastValue}
-use Rattle.values.specs.Dig.{digPlace}
+use Rattle.values.specs.Dig.{digVerdict, cutOf, digPlace}
+use Rattle.values.specs.Told.{cutBytes}
 use Rattle.memory.specs.Fitting.{Memory, tagFits}
 use Rattle.memory.specs.Reading.{readName}
 
@@ -46,3 +47,9 @@ pub record Answers (c : Catalog) (m : Memory) (s : List ℕ) (e : Member) : Type
   pub value : Value
   pub alone : readName c m (e .tag) ≡ some value
   pub cut : Option·map (λ q. part q (pastValue s q) s) (digPlace s (keysOf (e .path)) 1) ≡ some (layout value)
+
+-- the same of `dig` itself, given the file and the path as a plan file carries it: the bytes that it hands back
+pub record Shows (c : Catalog) (m : Memory) (s : List ℕ) (e : Member) : Type 0 where
+  pub value : Value
+  pub alone : readName c m (e .tag) ≡ some value
+  pub dug : cutBytes (digVerdict s (steps .lay (keysOf (e .path)))) (cutOf s (steps .lay (keysOf (e .path)))) ≡ layout value
