@@ -22,7 +22,7 @@ use Rattle.values.specs.Value.{Value}
 use Rattle.values.specs.File.{layout, fieldsVerdict}
 use Rattle.values.specs.Alike.{pastValue, valueVerdict}
 use Rattle.values.specs.Dig.{pathOf, pathVerdict, digVerdict, cutOf, digPlace}
-use Rattle.values.specs.Told.{dugTold, dugOf, cutBytes, partTold}
+use Rattle.values.specs.Told.{dugTold, dugOf, cutBytes, between, partTold, Handed}
 use Rattle.values.specs.declared.Dug.{Dug}
 use Rattle.values.specs.declared.Dug.the-variants.{At, NotThere, Refused as Unfit}
 use Rattle.values.proofs.Going.{was-fine, was-bad}
@@ -48,28 +48,23 @@ module _ (s p : List ℕ) (f : Checked) (e : f ≡ told (valueVerdict s) (length
         rw (was-fine (valueVerdict s) (length s) n (sym e ∙ d), was-fine (pathVerdict p) (length p) m (sym g ∙ h))
         (j ∙ ap (λ ks. dugTold s (digPlace s ks 1)) (sym (counted-value step p 0 k q 1 64 (omega arith) c b)))
 
--- ---- the part of a file that a cut found, by the ways of the code
-module _ (s : List ℕ) (d : Dug) where
-  pub part-none : d ≡ NotThere → [] ≡ partTold s d
-  unfolding partTold
-  part-none e = rw e
+-- ---- the bytes between two places, by the ways of the code
+module _ (s : List ℕ) (a z : ℕ) where
+  pub between-reversed : z < a → [] ≡ between s a z
+  unfolding between
+  between-reversed h = rw (lt-ltb z a h)
 
-  pub part-refused : (r : Refusal) → d ≡ Unfit r → [] ≡ partTold s d
-  unfolding partTold
-  part-refused r e = rw e
+  pub between-outside : a ≤ z → length s < z → [] ≡ between s a z
+  unfolding between
+  between-outside l h = rw (le-ltb z a l, lt-ltb (length s) z h)
 
-  module _ (a z : ℕ) (e : d ≡ At a z) where
-    pub part-reversed : z < a → [] ≡ partTold s d
-    unfolding partTold
-    part-reversed h = rw (e, lt-ltb z a h)
+  pub between-inside : a ≤ z → z ≤ length s → part a z s ≡ between s a z
+  unfolding between
+  between-inside l h = rw (le-ltb z a l, le-ltb (length s) z h)
 
-    pub part-outside : a ≤ z → length s < z → [] ≡ partTold s d
-    unfolding partTold
-    part-outside l h = rw (e, le-ltb z a l, lt-ltb (length s) z h)
-
-    pub part-inside : a ≤ z → z ≤ length s → part a z s ≡ partTold s d
-    unfolding partTold
-    part-inside l h = rw (e, le-ltb z a l, le-ltb (length s) z h)
+-- nothing stands between the front and itself
+between-none : (s r : List ℕ) → r ≡ between s 0 0 → r ≡ []
+between-none s r e = e ∙ sym (between-inside s 0 0 (omega arith) (omega arith))
 
 -- ---- the bytes handed back
 both-fine : (u v : Verdict) → first u v ≡ fine → u ≡ fine
@@ -80,7 +75,7 @@ both-fine (bad r) v e = e
 -- `o` is what the walk found, and `c` the value that the path leads to
 found-bytes : (s : List ℕ) (o : Option ℕ) (c : Option Value) → Option·map (λ q. part q (pastValue s q) s) o ≡ Option·map layout c
     → ((q : ℕ) → o ≡ some q → (q ≤ pastValue s q) × (pastValue s q ≤ length s)) → partTold s (dugTold s o) ≡ cutBytes fine c
-unfolding partTold dugTold cutBytes
+unfolding partTold between dugTold cutBytes
 found-bytes s none none e i = refl
 found-bytes s none (some v) e i = let z : _≡_ {A = ℕ} 0 1 = cc in absurd (omega arith)
 found-bytes s (some q) none e i = let z : _≡_ {A = ℕ} 0 1 = cc in absurd (omega arith)
@@ -100,6 +95,22 @@ module _ (s p : List ℕ) (b : Bytes s) where
           found-bytes s (digPlace s (pathOf p) 1) (cutOf s p) (cut-is s b g (pathOf p)) (cut-inside s b g (pathOf p))
       by-verdict (bad r) e = refl
 
-  -- `d` is what was dug, and `r` the part of it
-  pub cut-handed : (d : Dug) (r : List ℕ) → d ≡ dugOf (digVerdict s p) s (digPlace s (pathOf p) 1) → r ≡ partTold s d → r ≡ cutBytes (digVerdict s p) (cutOf s p)
-  cut-handed d r e h = h ∙ ap (partTold s) e ∙ handed
+  cut-handed : (d : Dug) (r : List ℕ) → r ≡ partTold s d → d ≡ dugOf (digVerdict s p) s (digPlace s (pathOf p) 1) → r ≡ cutBytes (digVerdict s p) (cutOf s p)
+  cut-handed d r h e = h ∙ ap (partTold s) e ∙ handed
+
+-- `d` is what was dug, and `r` what was handed back of it
+module _ (s : List ℕ) (b : Bytes s) (d : Dug) (r : List ℕ) where
+  part-handed : r ≡ partTold s d → Handed s d r
+  part-handed h = record { is = h; cuts = λ p. cut-handed s p b d r h }
+
+  pub found-handed : (a z : ℕ) → d ≡ At a z → r ≡ between s a z → Handed s d r
+  unfolding partTold
+  found-handed a z e h = part-handed (rw e h)
+
+  pub missing-handed : d ≡ NotThere → r ≡ between s 0 0 → Handed s d r
+  unfolding partTold
+  missing-handed e h = part-handed (rw e (between-none s r h))
+
+  pub refused-handed : (q : Refusal) → d ≡ Unfit q → r ≡ between s 0 0 → Handed s d r
+  unfolding partTold
+  refused-handed q e h = part-handed (rw e (between-none s r h))

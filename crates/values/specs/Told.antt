@@ -1,10 +1,12 @@
 -- What the code's checks and walks answer.
 -- Assumes nothing: these are definitions.
+use mathlib.Core.Path.{_≡_}
 use mathlib.Core.Option.{Option, none, some}
 use Rattle.fields.specs.Format.{Verdict, fine, bad}
 use Rattle.values.specs.Value.{Value}
 use Rattle.values.specs.File.{layout}
 use Rattle.values.specs.Alike.{pastValue}
+use Rattle.values.specs.Dig.{pathOf, digVerdict, cutOf, digPlace}
 use Rattle.values.specs.declared.Dug.{Dug}
 use Rattle.values.specs.declared.Dug.the-variants.{At, NotThere, Refused as Unfit}
 use Rattle.values.specs.declared.Outcome.{Outcome}
@@ -40,11 +42,20 @@ cutBytes fine none = []
 cutBytes fine (some v) = layout v
 cutBytes (bad r) o = []
 
--- the bytes from where a cut starts to where it ends; nothing where there is no part, and nothing where it is not inside the file
+-- the bytes from a place up to another, nothing where they are not inside the file
+unfoldable pub between : List ℕ → ℕ → ℕ → List ℕ
+between s a e = cond (ltb e a) [] (cond (ltb (length s) e) [] (part a e s))
+
+-- the part of a file that was dug, nothing where there is none
 unfoldable pub partTold : List ℕ → Dug → List ℕ
-partTold s (At a e) = cond (ltb e a) [] (cond (ltb (length s) e) [] (part a e s))
+partTold s (At a e) = between s a e
 partTold s NotThere = []
 partTold s (Unfit r) = []
+
+-- `r` is that part, and for a path that dug it these are the bytes of its cut
+pub record Handed (s : List ℕ) (d : Dug) (r : List ℕ) : Type 0 where
+  pub is : r ≡ partTold s d
+  pub cuts : (p : List ℕ) → d ≡ dugOf (digVerdict s p) s (digPlace s (pathOf p) 1) → r ≡ cutBytes (digVerdict s p) (cutOf s p)
 
 -- what became of a cut, without its places
 unfoldable pub outcomeOf : Dug → Outcome

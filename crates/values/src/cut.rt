@@ -10,7 +10,7 @@ use fields::number::number_at;
 use fields::number::past;
 ghost use mathlib.Core.Path.{_≡_};
 ghost use Rattle.values.specs.Dig.{pathOf, digVerdict, cutOf, digPlace};
-ghost use Rattle.values.specs.Told.{dugOf, cutBytes, partTold, outcomeOf};
+ghost use Rattle.values.specs.Told.{dugOf, cutBytes, between, Handed, outcomeOf};
 
 // Where the part stands that a path leads to.
 pub fn dig_place(value: &[u8], path: &[u8]) -> Dug
@@ -22,7 +22,7 @@ pub fn dig_place(value: &[u8], path: &[u8]) -> Dug
         Checked::Good(_) => {
             let way = check_path(path);
             match way {
-                Checked::Refused(r) => Dug::Refused(r),
+                Checked::Refused(w) => Dug::Refused(w),
                 Checked::Good(_) => {
                     let keys = number_at(path, 0, Width::One, 64);
                     dig_from(value, 1, path, past(path, 0, 1), keys)
@@ -32,22 +32,27 @@ pub fn dig_place(value: &[u8], path: &[u8]) -> Dug
     }
 }
 
-// The part itself, lent from the file; nothing where there is none.
+// The bytes from a place up to another; nothing where they are not inside the file.
+fn between<'a>(value: &'a [u8], start: usize, end: usize) -> &'a [u8]
+    ensures { λ r. ⌜ now r ≡ between (now (value .entry)) start end ⌝ }
+{
+    if end < start {
+        return &value[..0];
+    }
+    if value.len() < end {
+        return &value[..0];
+    }
+    &value[start..end]
+}
+
+// The part that was dug, lent from the file; nothing where there is none.
 pub fn part_of<'a>(value: &'a [u8], d: Dug) -> &'a [u8]
-    ensures { λ r. ⌜ now r ≡ partTold (now (value .entry)) d ⌝ }
+    ensures { λ r. ⌜ Handed (now (value .entry)) d (now r) ⌝ }
 {
     match d {
-        Dug::At(start, end) => {
-            if end < start {
-                return &value[..0];
-            }
-            if value.len() < end {
-                return &value[..0];
-            }
-            &value[start..end]
-        }
-        Dug::NotThere => &value[..0],
-        Dug::Refused(_) => &value[..0],
+        Dug::At(start, end) => between(value, start, end),
+        Dug::NotThere => between(value, 0, 0),
+        Dug::Refused(_) => between(value, 0, 0),
     }
 }
 

@@ -6,6 +6,7 @@ pub mod alike;
 pub mod check;
 pub mod cut;
 pub mod dig;
+pub mod held;
 
 // What a cut found: where the part stands, from its length field on, that there is none, or why the inputs were refused.
 pub enum Dug {

@@ -1,7 +1,5 @@
--- The part of what was dug is the layout of the value that the path leads to: the law on the bytes handed back in Handed.
-use native.Mathlib.Omega.{arith}
+-- The part of what was dug is the layout of the value that the path leads to, by the contract of the part.
 use denote.Ref.{now}
-use Rattle.values.proofs.Handed.{cut-handed}
 use borrow.Author.Needs.{needs}
 use Rattle.values.proofs.cut.cut.Statement.{statement}
 use Rattle.values.proofs.cut.cut.Tie as tie
@@ -13,7 +11,7 @@ part-of-requires : tie.Need-part-of-requires
 part-of-requires c κs = search needs
 
 returns : tie.Need-returns
-returns c = cut-handed (now (c .before .before .before .before .args .value)) (now (c .before .before .before .before .args .path)) (λ k. omega (arith, c .before .before .before .shared-slice-known .given k)) _ _ (c .before .dig-place .ensures) (c .part-of .ensures)
+returns c = c .part-of .ensures .cuts (now (c .before .before .before .before .args .path)) (c .before .dig-place .ensures)
 
 pub cut-spec : {M : Type 1} → statement M
 cut-spec = tie.close (tie.spec dig-place-requires part-of-requires returns)
