@@ -31,6 +31,7 @@ ghost use Rattle.queries.specs.Queries.{queryVerdict, measuredOf, wholeOf};
 ghost use Rattle.groups.specs.Groups.{groupsVerdict, planGroups};
 ghost use Rattle.values.specs.Dig.{pathOf, digVerdict, digPlace};
 ghost use Rattle.values.specs.Told.{dugOf};
+ghost use Rattle.results.specs.Sorting.{sortVerdict, sortedFile};
 ghost use Rattle.embed.specs.Returned.{low, refusedAs, returned, checkedAs, packetsAs, requestAs, replyAs, wholeAs, dugAs};
 
 // What fits into 56 bits.
@@ -163,6 +164,16 @@ pub extern "C" fn ruvangixo_plan_chunks(
     ensures memory { λ r. ⌜ now (out .exit) ≡ buffer (writing (groupsVerdict (now (catalog .entry)) (now (plan .entry))) (planGroups standard budget (now (catalog .entry)) (now (plan .entry))) (now (out .entry))) (planGroups standard budget (now (catalog .entry)) (now (plan .entry))) (now (out .entry)) ⌝ }
 {
     let w = groups::plan_chunks(catalog, plan, budget, out);
+    encode(w)
+}
+
+// The sorted answer of a plan and its results: what each member's cell shows, and which reads failed. Returned: the bytes written.
+#[no_mangle]
+pub extern "C" fn ruvangixo_sort(plan: &[u8], results: &[u8], out: &mut [u8]) -> u64
+    ensures answer { λ r. ⌜ r ≡ returned (writing (sortVerdict (now (plan .entry)) (now (results .entry))) (sortedFile (now (plan .entry)) (now (results .entry))) (now (out .entry))) ⌝ }
+    ensures memory { λ r. ⌜ now (out .exit) ≡ buffer (writing (sortVerdict (now (plan .entry)) (now (results .entry))) (sortedFile (now (plan .entry)) (now (results .entry))) (now (out .entry))) (sortedFile (now (plan .entry)) (now (results .entry))) (now (out .entry)) ⌝ }
+{
+    let w = results::sort::sort(plan, results, out);
     encode(w)
 }
 

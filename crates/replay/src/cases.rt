@@ -21,6 +21,7 @@ pub enum Call {
     Lists,
     Dig,
     Plans,
+    Sort,
 }
 
 // How many inputs a call takes.
@@ -42,6 +43,7 @@ pub fn input_count(call: Call) -> usize
         Call::Lists => 1,
         Call::Dig => 2,
         Call::Plans => 1,
+        Call::Sort => 2,
     }
 }
 

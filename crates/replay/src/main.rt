@@ -35,6 +35,7 @@ use plans::place::reads_start;
 use plans::write::put_member;
 use plans::write::put_read;
 use queries::check_catalog;
+use results::sort::sort;
 use sizes::reply::element_size;
 use sizes::reply::read_size;
 use structs::whole_size;
@@ -252,6 +253,7 @@ fn made(call: Call, first: &[u8], second: &[u8], third: &[u8], out: &mut [u8]) -
         Call::Lists => put_list(first, out),
         Call::Dig => put_dig(first, second, out),
         Call::Plans => put_plan(first, out),
+        Call::Sort => sort(first, second, out),
     }
 }
 
@@ -272,6 +274,7 @@ fn wants_catalog(call: Call) -> bool {
         Call::Lists => false,
         Call::Dig => false,
         Call::Plans => false,
+        Call::Sort => false,
     }
 }
 
@@ -551,4 +554,5 @@ fn main() {
     run(Call::Lists, b"lists.cases");
     run(Call::Dig, b"dig.cases");
     run(Call::Plans, b"plans.cases");
+    run(Call::Sort, b"sort.cases");
 }

@@ -6,19 +6,14 @@ use mathlib.Core.List.{List, [], _∷_, _++_, append-assoc, append-nil}
 use native.Mathlib.Omega.{arith}
 use lib.ListN.{length, take, length-append}
 use lib.Seq.{length-take-le}
-use Rattle.fields.specs.Format.{Verdict, fine, bad, first, _then_, leading, mapped, manyLay, many}
+use Rattle.fields.specs.Format.{fine, _then_, leading, mapped, manyLay, many}
 use Rattle.fields.specs.Fields.{numeric, number, digits, counted}
-use Rattle.fields.specs.Files.{openingCheck, fileLay}
-use Rattle.fields.specs.Places.{told}
+use Rattle.fields.specs.Files.{fileLay}
 use Rattle.fields.specs.Writing.{patch, writing, buffer}
-use Rattle.fields.specs.declared.Refusal.{Refusal}
 use Rattle.fields.specs.declared.Refusal.the-variants.{OutputTooShort}
-use Rattle.fields.specs.declared.Checked.the-variants.{Good, Refused}
-use Rattle.fields.specs.declared.Written.{Written}
 use Rattle.fields.specs.declared.Written.the-variants.{Done, Refused as Unwritten}
 use Rattle.fields.proofs.Spelled.{length-digits}
 use Rattle.fields.proofs.Filling.{Filling, filling-start, filling-room, filling-next, filling-byte, filling-number, filling-end, writing-short, writing-done}
-use Rattle.fields.proofs.WholeFiles.{opening-fine}
 use Rattle.results.specs.Sorting.{entry, sorted, sortedOf, sortedFile}
 use Rattle.results.specs.Told.{laid, allEntries, allFailed}
 use Rattle.results.proofs.Failing.{length-positions}
@@ -112,34 +107,3 @@ module _ (plan s : List ℕ) (w : (length plan ≤ 65536) × (length s ≤ 65536
             let c : Filling (sortedFile plan s) old o4 (5 + bytes) (Positions (take count positions) ++ []) = subst (λ x. Filling (sortedFile plan s) old o4 (5 + bytes) x) (sym k) counted-in in
             let z = filling-next (sortedFile plan s) old o4 (5 + bytes) (Positions (take count positions)) [] c in
             writing-done (sortedFile plan s) old (5 + bytes + 2 * count) file-size o5 h (e5 ∙ filling-end (sortedFile plan s) old (patch o4 (5 + bytes) (Positions (take count positions))) (5 + bytes + length (Positions (take count positions))) z)
-
--- ---- the openings of the two files
-told-fine : (u : Verdict) (p q : ℕ) → told u p ≡ Good q → u ≡ fine
-unfolding told
-told-fine fine p q e = refl
-told-fine (bad r) p q e = let z : _≡_ {A = ℕ} 0 1 = cc in absurd (omega arith)
-
-told-refused : (u : Verdict) (p : ℕ) (r : Refusal) → told u p ≡ Refused r → u ≡ bad r
-unfolding told
-told-refused fine p r e = let z : _≡_ {A = ℕ} 0 1 = cc in absurd (omega arith)
-told-refused (bad x) p r e = let z : x ≡ r = cc in ap bad z
-
--- a file that opens well is not over its limit
-pub opened : (s : List ℕ) (p : ℕ) → told (openingCheck 65536 s) 1 ≡ Good p → length s ≤ 65536
-opened s p e = opening-fine 65536 s (told-fine (openingCheck 65536 s) 1 p e) .0
-
-module _ (plan s file old : List ℕ) where
-  pub unopened-plan : (r : Refusal) → told (openingCheck 65536 plan) 1 ≡ Refused r
-      → (Unwritten r ≡ writing (first (openingCheck 65536 plan) (openingCheck 65536 s)) file old) × (old ≡ buffer (Unwritten r) file old)
-  unfolding writing buffer first
-  unopened-plan r e = (rw (told-refused (openingCheck 65536 plan) 1 r e), refl)
-
-  module _ (p : ℕ) (o : told (openingCheck 65536 plan) 1 ≡ Good p) where
-    pub unopened-results : (r : Refusal) → told (openingCheck 65536 s) 1 ≡ Refused r
-        → (Unwritten r ≡ writing (first (openingCheck 65536 plan) (openingCheck 65536 s)) file old) × (old ≡ buffer (Unwritten r) file old)
-    unfolding writing buffer first
-    unopened-results r e = (rw (told-fine (openingCheck 65536 plan) 1 p o, told-refused (openingCheck 65536 s) 1 r e), refl)
-
-    pub opened-both : (q : ℕ) → told (openingCheck 65536 s) 1 ≡ Good q → (r : Written) → r ≡ writing fine file old → r ≡ writing (first (openingCheck 65536 plan) (openingCheck 65536 s)) file old
-    unfolding first
-    opened-both q e r d = rw (told-fine (openingCheck 65536 plan) 1 p o, told-fine (openingCheck 65536 s) 1 q e) d

@@ -10,4 +10,6 @@ pub mod Onward
 pub mod Inside
 pub mod Counting
 pub mod Pairing
+pub mod Naming
+pub mod Accepting
 pub mod Filing

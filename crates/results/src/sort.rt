@@ -1,5 +1,6 @@
 // The sorted answer: what the cell of each member of a plan shows, and which reads failed. The sizes are added up first, and nothing is
 // written where they do not fit.
+use crate::alike::check_results;
 use crate::place::result_count;
 use crate::place::result_past;
 use crate::place::results_start;
@@ -7,13 +8,13 @@ use fields::Checked;
 use fields::Refusal;
 use fields::Width;
 use fields::Written;
-use fields::check::check_opening;
 use fields::check::text_at;
 use fields::check::text_past;
 use fields::number::number_at;
 use fields::number::past;
 use fields::text::equal;
 use fields::write::put_number;
+use plans::check::check_plan;
 use plans::place::member_past;
 use plans::place::read_count;
 use plans::place::read_past;
@@ -24,13 +25,12 @@ ghost use mathlib.Core.Path.{_≡_};
 ghost use Prim.Native.Nat.{_+_, _*_, _≤_};
 ghost use lib.ListN.{length, take};
 ghost use Rattle.fields.specs.Text.{same};
-ghost use Rattle.fields.specs.Format.{fine, first, many, manyLay};
+ghost use Rattle.fields.specs.Format.{fine, many, manyLay};
 ghost use Rattle.fields.specs.Fields.{number};
-ghost use Rattle.fields.specs.Files.{openingCheck};
-ghost use Rattle.fields.specs.Places.{valueAt};
+ghost use Rattle.fields.specs.Places.{valueAt, told};
 ghost use Rattle.fields.specs.Writing.{patch, writing, buffer};
 ghost use Rattle.plans.specs.Plans.{member, read};
-ghost use Rattle.results.specs.Sorting.{anyRetry, stands, sortedFile};
+ghost use Rattle.results.specs.Sorting.{anyRetry, stands, sortedFile, sortVerdict};
 ghost use Rattle.results.specs.Told.{shown, shownBytes, laid, shownRetry, hasPath, isLost, turnEntry, turnEntries, replyAt, Turned, pairCount, allEntries, fails, namesAt, allFailed};
 
 // What a member's cell shows: a part of the results file, that it is to be read again, or the result as received.
@@ -384,20 +384,38 @@ fn write_sorted(plan: &[u8], results: &[u8], out: &mut [u8]) -> Written
     Written::Done(size)
 }
 
-// The sorted answer of a plan and its results, taken as they are: of their refusals only 1 and 2 are looked for.
-pub fn sort_checked(plan: &[u8], results: &[u8], out: &mut [u8]) -> Written
-    ensures answer { λ r. ⌜ r ≡ writing (first (openingCheck 65536 (now (plan .entry))) (openingCheck 65536 (now (results .entry)))) (sortedFile (now (plan .entry)) (now (results .entry))) (now (out .entry)) ⌝ }
-    ensures memory { λ r. ⌜ now (out .exit) ≡ buffer r (sortedFile (now (plan .entry)) (now (results .entry))) (now (out .entry)) ⌝ }
+// The plan, then the results, then that there are as many results as reads.
+fn check_inputs(plan: &[u8], results: &[u8]) -> Checked
+    ensures { λ r. ⌜ r ≡ told (sortVerdict (now (plan .entry)) (now (results .entry))) (length (now (plan .entry))) ⌝ }
 {
-    let plan_opening = check_opening(plan, 65536);
-    match plan_opening {
-        Checked::Refused(r) => Written::Refused(r),
+    let first = check_plan(plan);
+    match first {
+        Checked::Refused(r) => Checked::Refused(r),
         Checked::Good(_) => {
-            let opening = check_opening(results, 65536);
-            match opening {
-                Checked::Refused(r) => Written::Refused(r),
-                Checked::Good(_) => write_sorted(plan, results, out),
+            let second = check_results(results);
+            match second {
+                Checked::Refused(r) => Checked::Refused(r),
+                Checked::Good(_) => {
+                    let n = read_count(plan);
+                    let m = result_count(results);
+                    if n == m {
+                        return Checked::Good(plan.len());
+                    }
+                    Checked::Refused(Refusal::CountsDiffer(pair_count(plan, results)))
+                }
             }
         }
+    }
+}
+
+// The sorted answer of a plan and its results.
+pub fn sort(plan: &[u8], results: &[u8], out: &mut [u8]) -> Written
+    ensures answer { λ r. ⌜ r ≡ writing (sortVerdict (now (plan .entry)) (now (results .entry))) (sortedFile (now (plan .entry)) (now (results .entry))) (now (out .entry)) ⌝ }
+    ensures memory { λ r. ⌜ now (out .exit) ≡ buffer r (sortedFile (now (plan .entry)) (now (results .entry))) (now (out .entry)) ⌝ }
+{
+    let v = check_inputs(plan, results);
+    match v {
+        Checked::Refused(r) => Written::Refused(r),
+        Checked::Good(_) => write_sorted(plan, results, out),
     }
 }
