@@ -11,3 +11,4 @@ pub mod Runs
 pub mod Demand
 pub mod Examples
 pub mod Files
+pub mod Shapes
