@@ -2,7 +2,8 @@
 
 use super::compare;
 use crate::catalog::Catalog;
-use crate::library::{Library, struct_part};
+use crate::cuts::tests::{dig, sort};
+use crate::library::{CALLS, Library, struct_part};
 use crate::packed::tests::{chunks, packets};
 use crate::planned::tests::plan_chunks;
 use crate::{lookup, names, worst};
@@ -89,8 +90,20 @@ unsafe extern "C" fn catalog(file: *const u8, size: usize) -> u64 {
     u64::from(Catalog::read(file).is_err()) << 56
 }
 
-pub(crate) const RIGHT: Library =
-    Library { tokens, strip, range, catalog, request_size, reply_size, struct_size, chunks, packets, plan_chunks };
+pub(crate) const RIGHT: Library = Library {
+    tokens,
+    strip,
+    range,
+    catalog,
+    request_size,
+    reply_size,
+    struct_size,
+    chunks,
+    packets,
+    plan_chunks,
+    dig,
+    sort,
+};
 
 pub(crate) fn run(library: Library, kind: &str) -> (String, bool) {
     let (lines, same) = compare(&library, kind, 4000, 1).expect("the comparison runs");
@@ -99,10 +112,8 @@ pub(crate) fn run(library: Library, kind: &str) -> (String, bool) {
 
 #[test]
 fn the_oracle_does_not_differ_from_itself() {
-    for kind in
-        ["tokens", "strip", "range", "request_size", "reply_size", "struct_size", "chunks", "packets", "plan_chunks"]
-    {
-        let (text, same) = run(RIGHT, kind);
+    for call in CALLS {
+        let (text, same) = run(RIGHT, call.name);
         assert!(same, "{text}");
         assert!(text.contains("0 differences in 4000 cases"));
     }
@@ -130,7 +141,7 @@ fn a_write_before_a_refusal_is_found() {
 
 #[test]
 fn a_call_that_the_library_lacks_is_said() {
-    assert!(compare(&RIGHT, "sort", 1, 1).is_err());
+    assert!(compare(&RIGHT, "plan", 1, 1).is_err());
 }
 
 #[test]

@@ -215,7 +215,7 @@ fn catalog_and_plan(random: &mut Random) -> Fields {
     vec![catalog.write(), plan::write(&reads), budget.to_be_bytes().to_vec()]
 }
 
-fn value_and_path(random: &mut Random) -> Fields {
+pub fn value_and_path(random: &mut Random) -> Fields {
     if random.chance(5) {
         let levels = *random.pick(&[40, 40, 39, 12]);
         let (chain, path) = values::chain(random, levels);
@@ -226,7 +226,7 @@ fn value_and_path(random: &mut Random) -> Fields {
     vec![value::write(&tree), plan::write_path(&path)]
 }
 
-fn plan_and_results(random: &mut Random) -> Fields {
+pub fn plan_and_results(random: &mut Random) -> Fields {
     let (reads, outcomes) = plans::with_results(random);
     vec![plan::write(&reads), results::write(&outcomes)]
 }
@@ -255,16 +255,20 @@ fn plan_chunks_features(fields: &[Vec<u8>], _: &[u8]) -> Features {
 
 fn dig_features(fields: &[Vec<u8>], _: &[u8]) -> Features {
     let value = value::read(&fields[0]).expect("a generated value is accepted");
-    features::values::dig(&value, &plan::read_path(&fields[1]).expect("a generated path"))
+    let mut seen = features::values::dig(&value, &plan::read_path(&fields[1]).expect("a generated path"));
+    seen.when(fields[0].len() == value::LIMIT, "65,536 bytes");
+    seen
 }
 
 fn sort_features(fields: &[Vec<u8>], answer: &[u8]) -> Features {
     let reads = plan::read(&fields[0]).expect("a generated plan is accepted");
-    let results = results::read(&fields[1]).expect("generated results are accepted");
+    let received = results::read(&fields[1]).expect("generated results are accepted");
     let status = |r: &ciplink::cip::TagResult| match (&r.value, &r.error) {
         (Some(_), _) => 0,
         (None, Some(_)) => 1,
         (None, None) => 2,
     };
-    features::values::sort(&reads, &results.iter().map(status).collect::<Vec<_>>(), answer)
+    let mut seen = features::values::sort(&reads, &received.iter().map(status).collect::<Vec<_>>(), answer);
+    seen.when(fields[1].len() == results::LIMIT, "65,536 bytes");
+    seen
 }

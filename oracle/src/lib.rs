@@ -21,6 +21,7 @@ pub mod bytes;
 pub mod catalog;
 pub mod compare;
 pub mod config;
+pub mod cuts;
 pub mod damaged;
 pub mod features;
 pub mod generate;

@@ -1,6 +1,7 @@
 //! The exported functions of the port's static library. Each returns one number: the top byte is the refusal's
 //! number, 0 for done, the low 56 bits are what is returned.
 
+use crate::cuts::{self, SortCall};
 use crate::guard::Lent;
 use crate::kinds::Fields;
 use crate::names::LONGEST;
@@ -11,7 +12,7 @@ use crate::random::Random;
 /// A call with one input and an output, each a pointer and a length.
 pub type NameCall = unsafe extern "C" fn(*const u8, usize, *mut u8, usize) -> u64;
 
-/// A call with a catalog and a name, which answers in the number that it returns.
+/// A call with two inputs, which answers in the number that it returns.
 pub type LookupCall = unsafe extern "C" fn(*const u8, usize, *const u8, usize) -> u64;
 
 /// A call with a catalog alone.
@@ -30,6 +31,8 @@ pub struct Library {
     pub chunks: ChunksCall,
     pub packets: PacketsCall,
     pub plan_chunks: PlannedCall,
+    pub dig: LookupCall,
+    pub sort: SortCall,
 }
 
 /// What a call returned, or what it changed that it may not change.
@@ -171,6 +174,28 @@ pub const CALLS: &[Call] = &[
         spoilt: 30,
         generate: Some(planned::generate),
     },
+    Call {
+        name: "dig",
+        kind: "dig",
+        part: |answer| answer,
+        call: |library, fields, _| looked_up(library.dig, fields),
+        writes: false,
+        refusal: cuts::dig_refusal,
+        spoil: cuts::spoil_dig,
+        spoilt: 30,
+        generate: Some(cuts::generate_dig),
+    },
+    Call {
+        name: "sort",
+        kind: "sort",
+        part: |answer| answer,
+        call: |library, fields, out| cuts::sort(library.sort, fields, out),
+        writes: true,
+        refusal: cuts::sort_refusal,
+        spoil: cuts::spoil_sort,
+        spoilt: 30,
+        generate: Some(cuts::generate_sort),
+    },
 ];
 
 /// The last of the sizes, behind that of an element; all 56 bits set where there is none.
@@ -193,11 +218,11 @@ pub fn named(function: NameCall, fields: &[Vec<u8>], out: &mut Lent<u8>) -> Retu
 }
 
 pub fn looked_up(function: LookupCall, fields: &[Vec<u8>]) -> Returned {
-    let catalog = Lent::new(&fields[0], 0xd7);
-    let name = Lent::new(&fields[1], 0xd7);
+    let first = Lent::new(&fields[0], 0xd7);
+    let second = Lent::new(&fields[1], 0xd7);
     // The pointers and lengths are those of two live vectors that nothing else holds.
-    let returned = unsafe { function(catalog.pointer(), catalog.len(), name.pointer(), name.len()) };
-    match catalog.untouched() && name.untouched() {
+    let returned = unsafe { function(first.pointer(), first.len(), second.pointer(), second.len()) };
+    match first.untouched() && second.untouched() {
         true => Ok(returned),
         false => Err("an input or what stands beside it was changed".to_owned()),
     }
@@ -241,6 +266,8 @@ pub fn linked() -> Result<Library, String> {
             out: *mut u8,
             room: usize,
         ) -> u64;
+        fn ruvangixo_dig(value: *const u8, size: usize, path: *const u8, length: usize) -> u64;
+        fn ruvangixo_sort(p: *const u8, n: usize, r: *const u8, m: usize, out: *mut u8, room: usize) -> u64;
     }
     Ok(Library {
         tokens: ruvangixo_tokens,
@@ -253,6 +280,8 @@ pub fn linked() -> Result<Library, String> {
         chunks: ruvangixo_chunks,
         packets: ruvangixo_packets,
         plan_chunks: ruvangixo_plan_chunks,
+        dig: ruvangixo_dig,
+        sort: ruvangixo_sort,
     })
 }
 

@@ -15,7 +15,7 @@ pub type PlannedCall = unsafe extern "C" fn(*const u8, usize, *const u8, usize, 
 
 /// The refusals of a catalog and of a plan.
 const OF_CATALOGS: &[u8] = &[1, 2, 3, 4, 5, 6, 7];
-const OF_PLANS: &[u8] = &[1, 2, 3, 4, 5, 8];
+pub const OF_PLANS: &[u8] = &[1, 2, 3, 4, 5, 8];
 
 pub fn plan_chunks(function: PlannedCall, fields: &[Vec<u8>], out: &mut Lent<u8>) -> Returned {
     let catalog = Lent::new(&fields[0], 0xd7);
@@ -91,7 +91,7 @@ fn member(random: &mut Random) -> Member {
     (random.pick(&["t", "Motor.Speed", "", "Trend[3]"]).to_string(), path)
 }
 
-/// The catalog, the plan or both with a byte changed, cut short, with a byte more, or two of these.
+/// The first input, the second or both with a byte changed, cut short, with a byte more, or two of these.
 pub fn damage(random: &mut Random, fields: &mut [Vec<u8>]) {
     for _ in 0..random.weighted(&[(3, 1), (1, 2)]) {
         let file = &mut fields[random.below(2)];

@@ -11,7 +11,7 @@ use crate::planned::PlannedCall;
 /// A lent file.
 type File = (*const u8, usize);
 
-fn written(answer: &[u8], out: *mut u8, room: usize) -> u64 {
+pub(crate) fn written(answer: &[u8], out: *mut u8, room: usize) -> u64 {
     if answer.len() > room {
         return 9 << 56 | answer.len() as u64;
     }

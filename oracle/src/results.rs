@@ -72,7 +72,7 @@ const RECEIVED: &str = "received";
 const RETRIED: &str = "retried";
 
 fn read_all(reader: &mut Reader) -> Result<Vec<TagResult>, String> {
-    let count = reader.count(2, 256)?;
+    let count = reader.number(2)?;
     let results = (0..count)
         .map(|_| {
             let status = reader.limited(1, 2)?;

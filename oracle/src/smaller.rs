@@ -59,10 +59,11 @@ pub fn plan_chunks(fields: &[Vec<u8>]) -> Vec<Fields> {
     plans.chain(catalogs(fields)).chain(bytes).collect()
 }
 
-/// A plan with one read's members fewer. Reads and results go together, so both stay as many.
+/// A plan with one read's members fewer, where both files are accepted: reads and results go together, so both stay as
+/// many. Then either file with bytes dropped.
 pub fn sort(fields: &[Vec<u8>]) -> Vec<Fields> {
     let (Ok(reads), Ok(_)) = (plan::read(&fields[0]), results::read(&fields[1])) else {
-        return Vec::new();
+        return bytes(fields);
     };
     let mut cases = Vec::new();
     for place in 0..reads.len() {
@@ -72,6 +73,7 @@ pub fn sort(fields: &[Vec<u8>]) -> Vec<Fields> {
             cases.push(replaced(fields, 0, plan::write(&smaller)));
         }
     }
+    cases.extend(bytes(fields));
     cases
 }
 

@@ -56,6 +56,7 @@ pub fn sort(reads: &[PlannedRead], statuses: &[u8], answer: &[u8]) -> Features {
         seen.when(true, names[usize::from(*kind)]);
     }
     seen.when(reads.is_empty(), "no reads");
+    seen.when(reads.len() > 100, "more than 100 reads");
     let mut rest = entries.as_slice();
     for (position, (read, status)) in reads.iter().zip(statuses).enumerate() {
         let (mine, others) = rest.split_at(read.members.len());

@@ -65,7 +65,8 @@ pub fn with_results(random: &mut Random) -> (Vec<PlannedRead>, Vec<Outcome>) {
     (reads, outcomes)
 }
 
-fn outcome(random: &mut Random, value: crate::value::Plain) -> Outcome {
+/// A value that came back, an error or neither.
+pub fn outcome(random: &mut Random, value: crate::value::Plain) -> Outcome {
     match random.below(10) {
         0 | 1 => Outcome::Error,
         2 => Outcome::Neither,
