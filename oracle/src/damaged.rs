@@ -4,6 +4,7 @@
 pub mod catalogs;
 pub mod lists;
 pub mod plans;
+pub mod values;
 
 use crate::bytes::Writer;
 

@@ -1,6 +1,6 @@
 //! The stored cases: one file a kind, a row of cases, each a row of fields behind a length of 4 bytes. Those made
 //! by hand come first, then generated ones that show something still rare, then any until there are enough. Damaged
-//! catalogs, lists and plans are files of their own, all made by hand; lists and plans to be written anew too.
+//! catalogs, lists, plans and values are files of their own, all made by hand; lists and plans to be written anew too.
 
 use std::collections::HashMap;
 use std::path::Path;
@@ -94,6 +94,7 @@ fn files(seed: u64) -> Result<Vec<Stored>, String> {
     files.push(damaged_file("damaged", &damaged::catalogs::all()));
     files.push(damaged_file("damaged_lists", &damaged::lists::all()));
     files.push(damaged_file("damaged_plans", &damaged::plans::all()));
+    files.push(damaged_file("damaged_values", &damaged::values::all()));
     files.push(anew_file("lists", &lists(seed)?));
     files.push(anew_file("plans", &plans(seed)?));
     Ok(files)
