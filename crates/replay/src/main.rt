@@ -40,6 +40,7 @@ use sizes::reply::element_size;
 use sizes::reply::read_size;
 use structs::whole_size;
 use values::Dug;
+use values::alike::check_value_file;
 use values::cut::dig_place;
 ghost use mathlib.Core.Path.{_≡_};
 ghost use lib.ListN.{length};
@@ -250,6 +251,7 @@ fn made(call: Call, first: &[u8], second: &[u8], third: &[u8], out: &mut [u8]) -
         Call::PlanChunks => put_plan_chunks(first, second, third, out),
         Call::DamagedLists => Written::Done(put_verdict(check_list(first), out)),
         Call::DamagedPlans => Written::Done(put_verdict(check_plan(first), out)),
+        Call::DamagedValues => Written::Done(put_verdict(check_value_file(first), out)),
         Call::Lists => put_list(first, out),
         Call::Dig => put_dig(first, second, out),
         Call::Plans => put_plan(first, out),
@@ -271,6 +273,7 @@ fn wants_catalog(call: Call) -> bool {
         Call::PlanChunks => false,
         Call::DamagedLists => false,
         Call::DamagedPlans => false,
+        Call::DamagedValues => false,
         Call::Lists => false,
         Call::Dig => false,
         Call::Plans => false,
@@ -551,6 +554,7 @@ fn main() {
     run(Call::PlanChunks, b"plan_chunks.cases");
     run(Call::DamagedLists, b"damaged_lists.cases");
     run(Call::DamagedPlans, b"damaged_plans.cases");
+    run(Call::DamagedValues, b"damaged_values.cases");
     run(Call::Lists, b"lists.cases");
     run(Call::Dig, b"dig.cases");
     run(Call::Plans, b"plans.cases");
