@@ -26,14 +26,14 @@ use Rattle.lists.proofs.Places.{no-group-are, together-are, tags-are, c
 
 -- the text at position `n` of those behind a count of at most `most`, for any format that reads texts
 module _ (f : Format Text) (F : Lawful f) (s : List ℕ) (texts : (i : ℕ) → valueAt f s i ≡ textOf (drop i s)) (most : ℕ) (m : most ≤ 65535) (at n : ℕ) where
-  row-is : valueAt (counted 2 most f) s at ≡ valueAt (many f (valueAt (number 2 most) s at)) s (placeAt (number 2 most) s at)
+  pub row-is : valueAt (counted 2 most f) s at ≡ valueAt (many f (valueAt (number 2 most) s at)) s (placeAt (number 2 most) s at)
   unfolding counted
   row-is = leading-value (number 2 most) length (many f) s at (lawful-count most m)
 
   row-length : length (valueAt (counted 2 most f) s at) ≡ valueAt (number 2 most) s at
   row-length = counted-length f s 2 most at (omega arith) F
 
-  here-is : n < valueAt (number 2 most) s at
+  pub here-is : n < valueAt (number 2 most) s at
       → textOf (drop (getD (placesFrom f (valueAt (number 2 most) s at) s (placeAt (number 2 most) s at)) n 0) s) ≡ getD (valueAt (counted 2 most f) s at) n []
   here-is h =
       let c = valueAt (number 2 most) s at in

@@ -100,6 +100,10 @@ module _ (s : List ℕ) where
     unfolding tagsPlace
     tags-place e h = k ∙ sym (counted-place (text 128) s at n p 2 64 (omega arith) h g) ∙ ap (placeAt together s) e
 
+-- what a count counts starts behind it
+pub start-is : (s : List ℕ) (at place p most : ℕ) → at ≡ place → p ≡ at + length (take 2 (drop at s)) → p ≡ placeAt (number 2 most) s place
+start-is s at place p most e g = g ∙ sym (number-place s at most 2) ∙ ap (placeAt (number 2 most) s) e
+
 -- ---- the fields of the list that a file spells
 module _ (s : List ℕ) where
   from-budget : valueAt listFields s 1 .1 ≡ (valueAt (number 2 65535) s (budgetPlace s), valueAt names s (noGroupPlace s))

@@ -10,7 +10,7 @@ use Rattle.fields.specs.Fields.{number}
 use Rattle.fields.specs.Places.{valueAt, placeAt, placesFrom, textPart}
 use Rattle.fields.specs.Text.{Text}
 use Rattle.fields.specs.declared.Part.{Part}
-use Rattle.lists.specs.Lists.{together, noGroup}
+use Rattle.lists.specs.Lists.{tag, together, noGroup}
 
 -- where the budget stands
 unfoldable pub budgetPlace : List ℕ → ℕ
@@ -27,6 +27,10 @@ togetherPlace s = placeAt noGroup s (noGroupPlace s)
 -- where the tag count stands
 unfoldable pub tagsPlace : List ℕ → ℕ
 tagsPlace s = placeAt together s (togetherPlace s)
+
+-- where the tags stand
+unfoldable pub tagPlaces : List ℕ → List ℕ
+tagPlaces s = placesFrom tag (valueAt (number 2 256) s (tagsPlace s)) s (placeAt (number 2 256) s (tagsPlace s))
 
 -- nothing, at the front of the file
 abbrev pub nothing : Part

@@ -9,7 +9,7 @@ ghost use mathlib.Core.Path.{_≡_};
 ghost use Prim.Native.Nat.{_≤_};
 ghost use lib.ListN.{length};
 ghost use Rattle.fields.specs.Format.{many};
-ghost use Rattle.fields.specs.Fields.{text};
+ghost use Rattle.fields.specs.Fields.{number, text};
 ghost use Rattle.fields.specs.Places.{placeAt};
 ghost use Rattle.lists.specs.Lists.{tag, listOf};
 ghost use Rattle.lists.specs.Access.{noGroupPlace, togetherPlace, tagsPlace, nthPart};
@@ -63,6 +63,27 @@ fn tags_place(s: &[u8]) -> usize
 {
     let at = together_place(s);
     texts_past(s, past(s, at, 2), number_at(s, at, Width::Two, 64))
+}
+
+// Where the no-group names start.
+pub fn no_group_start(s: &[u8]) -> usize
+    ensures { λ r. ⌜ r ≡ placeAt (number 2 256) (now (s .entry)) (noGroupPlace (now (s .entry))) ⌝ }
+{
+    past(s, no_group_place(s), 2)
+}
+
+// Where the together names start.
+pub fn together_start(s: &[u8]) -> usize
+    ensures { λ r. ⌜ r ≡ placeAt (number 2 64) (now (s .entry)) (togetherPlace (now (s .entry))) ⌝ }
+{
+    past(s, together_place(s), 2)
+}
+
+// Where the tags start.
+pub fn tags_start(s: &[u8]) -> usize
+    ensures { λ r. ⌜ r ≡ placeAt (number 2 256) (now (s .entry)) (tagsPlace (now (s .entry))) ⌝ }
+{
+    past(s, tags_place(s), 2)
 }
 
 // How many no-group names there are.
