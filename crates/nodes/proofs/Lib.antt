@@ -1,5 +1,6 @@
 pub mod Places
 pub mod Values
 pub mod Finds
+pub mod Passes
 pub mod Standing
 pub mod Accepting

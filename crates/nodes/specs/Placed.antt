@@ -16,6 +16,11 @@ unfoldable pub foundTold : Option ℕ → Found
 foundTold none = Nowhere
 foundTold (some p) = At p
 
+-- the place that the code tells
+unfoldable pub placeTold : Found → Option ℕ
+placeTold (At p) = some p
+placeTold Nowhere = none
+
 -- whether just this name stands at a place
 unfoldable pub isNamedAt : List ℕ → Text → ℕ → Bool
 isNamedAt s t p = same (nameAt s p) t

@@ -7,12 +7,13 @@ use fields::check::text_at;
 use fields::text::equal;
 use fields::text::equal_ignoring_case;
 ghost use mathlib.Core.Path.{_≡_};
+ghost use mathlib.Core.Option.{some};
+ghost use Rattle.fields.specs.Options.{orElse};
 ghost use Rattle.fields.specs.Places.{placesFrom};
 ghost use Rattle.fields.specs.Text.{same, alike};
 ghost use Rattle.catalog.specs.Catalog.{node};
-ghost use Rattle.catalog.specs.Finding.{find};
 ghost use Rattle.catalog.specs.Alike.{nameAt};
-ghost use Rattle.nodes.specs.Placed.{foundTold, isNamedAt, isCalledAt, nodePlace, tagPlace};
+ghost use Rattle.nodes.specs.Placed.{foundTold, placeTold, nodePlace, tagPlace};
 
 // Whether the name at a place is just this one.
 pub fn is_named(s: &[u8], at: usize, name: &[u8]) -> bool
@@ -34,47 +35,34 @@ pub fn is_called(s: &[u8], at: usize, name: &[u8]) -> bool
     equal_ignoring_case(&s[start..end], name)
 }
 
-// The first of so many nodes of just this name.
-fn find_named(s: &[u8], from: usize, n: usize, name: &[u8]) -> Found
-    ensures { λ r. ⌜ r ≡ foundTold (find (isNamedAt (now (s .entry)) (now (name .entry))) (placesFrom node n (now (s .entry)) from)) ⌝ }
+// What was found before, or else a place.
+fn either(found: Found, at: usize) -> Found
+    ensures { λ r. ⌜ r ≡ foundTold (orElse (placeTold found) (some at)) ⌝ }
 {
-    let mut at = from;
-    let mut k = n;
-    while 0 < k {
-        if is_named(s, at, name) {
-            return Found::At(at);
-        }
-        at = node_past(s, at);
-        k -= 1;
+    match found {
+        Found::At(p) => Found::At(p),
+        Found::Nowhere => Found::At(at),
     }
-    Found::Nowhere
-}
-
-// The first of so many nodes of this name, case ignored.
-fn find_called(s: &[u8], from: usize, n: usize, name: &[u8]) -> Found
-    ensures { λ r. ⌜ r ≡ foundTold (find (isCalledAt (now (s .entry)) (now (name .entry))) (placesFrom node n (now (s .entry)) from)) ⌝ }
-{
-    let mut at = from;
-    let mut k = n;
-    while 0 < k {
-        if is_called(s, at, name) {
-            return Found::At(at);
-        }
-        at = node_past(s, at);
-        k -= 1;
-    }
-    Found::Nowhere
 }
 
 // The node of a name among so many: exact spelling first, then case ignored.
 pub fn find_node(s: &[u8], from: usize, n: usize, name: &[u8]) -> Found
     ensures { λ r. ⌜ r ≡ foundTold (nodePlace (now (s .entry)) (now (name .entry)) (placesFrom node n (now (s .entry)) from)) ⌝ }
 {
-    let exact = find_named(s, from, n, name);
-    match exact {
-        Found::At(p) => Found::At(p),
-        Found::Nowhere => find_called(s, from, n, name),
+    let mut at = from;
+    let mut k = n;
+    let mut called = Found::Nowhere;
+    while 0 < k {
+        if is_called(s, at, name) {
+            if is_named(s, at, name) {
+                return Found::At(at);
+            }
+            called = either(called, at);
+        }
+        at = node_past(s, at);
+        k -= 1;
     }
+    called
 }
 
 // The tag of a name.

@@ -1,37 +1,65 @@
--- What the exact search found is the answer, and else what the other one found, by the laws in Finds on exact spelling.
+-- The loop keeps that the nodes left, with the first place kept meanwhile, give what the two searches of all of them give.
+use mathlib.Core.Path.{_≡_, sym, _∙_}
+use mathlib.Core.Logic.{⊎-elim}
 use borrow.Author.Needs.{needs}
-use Rattle.nodes.specs.Placed.{nodePlace}
-use Rattle.nodes.proofs.Finds.{exact-found, exact-missing}
+use Rattle.fields.specs.Places.{placesFrom}
+use Rattle.catalog.specs.Catalog.{node}
+use Rattle.nodes.specs.Placed.{isNamedAt, isCalledAt, nodePlace}
+use Rattle.nodes.proofs.Passes.{passed, pass-start, pass-end, pass-named, pass-called, pass-other}
 use Rattle.nodes.proofs.find.find_node.Statement.{statement}
 use Rattle.nodes.proofs.find.find_node.Tie as tie
 
-find-named-requires : tie.Need-find-named-requires
-find-named-requires c κs = search needs
+abbrev Inv-loop : tie.InvT-loop
+Inv-loop s from n name at₀ k₀ called₀ at k called = passed s name at k called ≡ nodePlace s name (placesFrom node n s from)
 
-enum-known-exact : tie.Need-enum-known-exact
-enum-known-exact c = search needs
+abbrev μ-loop : tie.MeasureT-loop
+μ-loop s from n name at₀ k₀ called₀ at k called = k
 
-enum-told : tie.Need-enum-told
-enum-told c = search needs
+loop-holds : tie.Need-loop-holds Inv-loop μ-loop
+loop-holds c = pass-start _ _ _ _
 
-find-called-requires : tie.Need-find-called-requires
-find-called-requires c κs = search needs
+is-called-requires : tie.Need-is-called-requires Inv-loop μ-loop
+is-called-requires c κs = search needs
 
-returns : tie.Need-returns
-unfolding nodePlace
-returns c = exact-found _ _ _ (c .before .before .before .find-named .ensures) _ (c .before .exact .given .1)
+is-named-requires : tie.Need-is-named-requires Inv-loop μ-loop
+is-named-requires c κs = search needs
 
-returns-2 : tie.Need-returns-2
-unfolding nodePlace
-returns-2 c = exact-missing _ _ _ (c .before .before .before .find-named .ensures) _ (c .before .enum-told .given .1) (c .find-called .ensures)
+returns : tie.Need-returns Inv-loop μ-loop
+unfolding isNamedAt
+returns c = pass-named _ _ _ _ _ _ (c .before .before .before .before .before .loop .inv) (c .before .before .before .before .loop-test .taken) (sym (c .before .is-named .ensures) ∙ c .if2 .taken)
+
+either-requires : tie.Need-either-requires Inv-loop μ-loop
+either-requires c κs = search needs
+
+node-past-requires : tie.Need-node-past-requires Inv-loop μ-loop
+node-past-requires c κs = search needs
+
+sub-k : tie.Need-sub-k Inv-loop μ-loop
+sub-k c = search needs
+
+loop-less : tie.Need-loop-less Inv-loop μ-loop
+loop-less c = search needs
+
+loop-again : tie.Need-loop-again Inv-loop μ-loop
+unfolding isNamedAt isCalledAt
+loop-again c = ⊎-elim (λ w. pass-called _ _ _ _ _ _ (c .before .before .before .before .loop .inv) (c .before .before .before .loop-test .taken) _ _ (sym (c .before .before .is-called .ensures) ∙ w .0 .taken) (sym (w .1 .ensures) ∙ w .2 .left) (w .4 ∙ w .3 .ensures) (c .node-past .ensures)) (λ w. pass-other _ _ _ _ _ _ (c .before .before .before .before .loop .inv) (c .before .before .before .loop-test .taken) _ _ (sym (c .before .before .is-called .ensures) ∙ w .0 .left) (w .1) (c .node-past .ensures)) (c .before .if1 .came)
+
+returns-2 : tie.Need-returns-2 Inv-loop μ-loop
+returns-2 c = pass-end _ _ _ _ _ _ (c .before .loop .inv) (c .loop-test .left)
 
 pub find-node-spec : {M : Type 1} → statement M
 find-node-spec =
     tie.close
     (tie.spec
-    find-named-requires
-    enum-known-exact
-    enum-told
-    find-called-requires
+    Inv-loop
+    μ-loop
+    loop-holds
+    is-called-requires
+    is-named-requires
     returns
+    either-requires
+    node-past-requires
+    sub-k
+    loop-less
+    loop-again
     returns-2)
