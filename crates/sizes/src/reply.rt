@@ -93,7 +93,7 @@ fn dims_count(s: &[u8], at: usize) -> usize
 }
 
 // Whether the node at a place is read as bits, 32 in a word.
-fn is_bits(s: &[u8], at: usize) -> bool
+pub fn is_bits(s: &[u8], at: usize) -> bool
     ensures { λ r. ⌜ r ≡ isBits (valueAt node (now (s .entry)) at) ⌝ }
 {
     let of = type_at(s, at);
