@@ -17,7 +17,7 @@ use Rattle.names.specs.Strip.{stripped}
 use Rattle.names.specs.Listing.{longestName}
 use Rattle.catalog.specs.Catalog.{Node, node, typeDef, counts, catalogOf}
 use Rattle.catalog.specs.Finding.{find, isTyped, typeNamed}
-use Rattle.catalog.specs.Alike.{typesStart, typePlaces, membersCount, memberPlaces}
+use Rattle.catalog.specs.Alike.{typesStart, membersCount, memberPlaces}
 use Rattle.catalog.proofs.Round.{lawful-type}
 use Rattle.nodes.specs.Reading.{foundIn}
 use Rattle.nodes.specs.Lookup.{nodeNamed}
@@ -26,7 +26,7 @@ use Rattle.nodes.proofs.Finds.{found-value, either-is, node-is, tag-is}
 use Rattle.nodes.proofs.Standing.{types-are, typed, members-left}
 use Rattle.lookup.specs.Info.{memberCalled, memberStep, memberOf, pathOf, prefixLength, infoOf, lookedUp}
 use Rattle.lookup.specs.Told.{typeIn}
-use Rattle.lookup.specs.Placed.{typePlace, memberPlaceOf, memberPlace, membersPlace, pathPlace, infoPlace, lookedPlace}
+use Rattle.lookup.specs.Placed.{typePlaceIn, typePlace, memberPlaceOf, memberPlaceIn, memberPlace, membersPlace, pathPlace, infoPlace, lookedPlace}
 
 module _ (s : List ℕ) where
   -- ---- types
@@ -40,7 +40,7 @@ module _ (s : List ℕ) where
   type-named t at = typed s at t
 
   pub type-is : (t : Text) → typeIn s (foundTold (typePlace s t)) ≡ typeNamed (catalogOf s) t
-  unfolding typePlace typePlaces typeNamed
+  unfolding typePlaceIn typePlace typeNamed
   type-is t =
       type-told (typePlace s t)
       ∙ found-value typeDef lawful-type (isTyped t) (isNamedAt s t) s (type-named t) (valueAt counts s 1 .1) (typesStart s)
@@ -60,7 +60,7 @@ module _ (s : List ℕ) where
   from-type a (some q) = member-at a q
 
   pub member-is : (p : ℕ) (a : Text) → foundIn s (foundTold (memberPlace s p a)) ≡ memberStep (catalogOf s) (valueAt node s p) a
-  unfolding memberPlace memberStep
+  unfolding typePlace memberPlaceIn memberPlace memberStep
   member-is p a =
       from-type a (typePlace s (valueAt node s p .typeName)) ∙ ap (λ o. andThen o (memberCalled a)) (type-is (valueAt node s p .typeName))
 

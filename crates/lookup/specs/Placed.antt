@@ -8,28 +8,36 @@ use lib.Dec.{eqb, ltb}
 use lib.ListN.{length, take, drop}
 use Rattle.fields.specs.Options.{andThen, orElse}
 use Rattle.fields.specs.Text.{Text}
-use Rattle.fields.specs.Places.{valueAt}
+use Rattle.fields.specs.Places.{valueAt, placesFrom}
 use Rattle.names.specs.Pieces.{parts}
 use Rattle.names.specs.Strip.{stripped}
 use Rattle.names.specs.Listing.{longestName}
-use Rattle.catalog.specs.Catalog.{node}
+use Rattle.catalog.specs.Catalog.{node, typeDef, counts}
 use Rattle.catalog.specs.Finding.{find}
-use Rattle.catalog.specs.Alike.{typePlaces, memberPlaces}
+use Rattle.catalog.specs.Alike.{typesStart, memberPlaces}
 use Rattle.nodes.specs.Placed.{isNamedAt, nodePlace, tagPlace}
 use Rattle.lookup.specs.Info.{prefixLength}
 use Rattle.lookup.specs.Told.{partsBehind}
 
+-- where the type of a name stands, of the types from the place `from` on
+unfoldable pub typePlaceIn : List ℕ → ℕ → Text → Option ℕ
+typePlaceIn s from t = find (isNamedAt s t) (placesFrom typeDef (valueAt counts s 1 .1) s from)
+
 -- where the type of a name stands
 unfoldable pub typePlace : List ℕ → Text → Option ℕ
-typePlace s t = find (isNamedAt s t) (typePlaces s)
+typePlace s t = typePlaceIn s (typesStart s) t
 
 -- where the member of a name stands, of the type at the place `q`
 unfoldable pub memberPlaceOf : List ℕ → Text → ℕ → Option ℕ
 memberPlaceOf s a q = nodePlace s a (memberPlaces s q)
 
+-- where the member of a name stands, of the node at the place `p` whose type is among those from the place `from` on
+unfoldable pub memberPlaceIn : List ℕ → ℕ → ℕ → Text → Option ℕ
+memberPlaceIn s from p a = andThen (typePlaceIn s from (valueAt node s p .typeName)) (memberPlaceOf s a)
+
 -- where the member of a name stands, of the node at the place `p` whose type is listed
 unfoldable pub memberPlace : List ℕ → ℕ → Text → Option ℕ
-memberPlace s p a = andThen (typePlace s (valueAt node s p .typeName)) (memberPlaceOf s a)
+memberPlace s p a = memberPlaceIn s (typesStart s) p a
 
 -- 01, info: "step through members", from the node at the place `p`
 unfoldable pub membersPlace : List ℕ → ℕ → List Text → Option ℕ

@@ -7,11 +7,13 @@ use names::token::place_of;
 use names::walk::program_end;
 use nodes::Found;
 use nodes::find::find_tag;
+use nodes::place::types_start;
 ghost use mathlib.Core.Path.{_≡_};
 ghost use Prim.Native.Nat.{_≤_};
 ghost use lib.ListN.{length};
 ghost use Rattle.fields.specs.Writing.{answered};
 ghost use Rattle.names.specs.Listing.{longestName};
+ghost use Rattle.catalog.specs.Alike.{typesStart};
 ghost use Rattle.nodes.specs.Placed.{foundTold};
 ghost use Rattle.lookup.specs.Info.{prefixLength};
 ghost use Rattle.lookup.specs.Told.{plainName};
@@ -52,8 +54,9 @@ fn spell(name: &[u8], h: usize, out: &mut [u8]) -> usize
     }
 }
 
-// The members of a node that a path names, of which a part ends at the place from.
-fn members_of(s: &[u8], t: &[u8], from: usize, tag: usize) -> Found
+// The members of a node that a path names, of which a part ends at the place from. The types of the file start at a place.
+fn members_of(s: &[u8], types: usize, t: &[u8], from: usize, tag: usize) -> Found
+    requires { ⌜ types ≡ typesStart (now s) ⌝ }
     ensures { λ r. ⌜ r ≡ foundTold (membersFrom (now (s .entry)) tag (now (t .entry)) from) ⌝ }
 {
     let mut e = from;
@@ -61,7 +64,7 @@ fn members_of(s: &[u8], t: &[u8], from: usize, tag: usize) -> Found
     while e < t.len() {
         let start = e + 1;
         let end = place_of(t, start, b'.');
-        let found = member_of(s, p, &t[start..end]);
+        let found = member_of(s, types, p, &t[start..end]);
         match found {
             Found::At(q) => {
                 p = q;
@@ -84,7 +87,12 @@ fn node_of_path(s: &[u8], t: &[u8], h: usize) -> Found
     let found = find_tag(s, &t[..e]);
     match found {
         Found::Nowhere => Found::Nowhere,
-        Found::At(p) => members_of(s, t, e, p),
+        Found::At(p) => {
+            if t.len() <= e {
+                return Found::At(p);
+            }
+            members_of(s, types_start(s), t, e, p)
+        }
     }
 }
 

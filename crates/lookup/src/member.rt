@@ -9,16 +9,15 @@ use nodes::place::member_count;
 use nodes::place::members_count_place;
 use nodes::place::type_count;
 use nodes::place::type_past;
-use nodes::place::types_start;
 ghost use mathlib.Core.Path.{_≡_};
 ghost use Rattle.nodes.specs.Placed.{foundTold};
-ghost use Rattle.lookup.specs.Placed.{typePlace, memberPlaceOf, memberPlace};
+ghost use Rattle.lookup.specs.Placed.{typePlaceIn, memberPlaceOf, memberPlaceIn};
 
-// The type of a name.
-pub fn find_type(s: &[u8], name: &[u8]) -> Found
-    ensures { λ r. ⌜ r ≡ foundTold (typePlace (now (s .entry)) (now (name .entry))) ⌝ }
+// The type of a name, of the types that stand from a place on.
+pub fn find_type(s: &[u8], types: usize, name: &[u8]) -> Found
+    ensures { λ r. ⌜ r ≡ foundTold (typePlaceIn (now (s .entry)) types (now (name .entry))) ⌝ }
 {
-    let mut at = types_start(s);
+    let mut at = types;
     let mut k = type_count(s);
     while 0 < k {
         if is_named(s, at, name) {
@@ -38,14 +37,14 @@ fn find_member(s: &[u8], at: usize, name: &[u8]) -> Found
     find_node(s, past(s, count, 2), member_count(s, count), name)
 }
 
-// The member of the node at a place, by the node's type.
-pub fn member_of(s: &[u8], at: usize, name: &[u8]) -> Found
-    ensures { λ r. ⌜ r ≡ foundTold (memberPlace (now (s .entry)) at (now (name .entry))) ⌝ }
+// The member of the node at a place, by the node's type, of the types that stand from another place on.
+pub fn member_of(s: &[u8], types: usize, at: usize, name: &[u8]) -> Found
+    ensures { λ r. ⌜ r ≡ foundTold (memberPlaceIn (now (s .entry)) types at (now (name .entry))) ⌝ }
 {
     let of = text_at(s, text_past(s, at));
     let start = of.start;
     let end = of.end;
-    let found = find_type(s, &s[start..end]);
+    let found = find_type(s, types, &s[start..end]);
     match found {
         Found::At(p) => find_member(s, p, name),
         Found::Nowhere => Found::Nowhere,

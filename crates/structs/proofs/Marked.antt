@@ -2,7 +2,7 @@
 -- What the code reads at places is what the catalog has.
 -- Assumes nothing.
 use Prim.Native.Nat.{ℕ, suc, _+_, _-_, _≤_, _<_}
-use mathlib.Core.Path.{_≡_, refl, sym, ap, ap₂, _∙_}
+use mathlib.Core.Path.{_≡_, refl, sym, ap, _∙_}
 use mathlib.Core.Bool.{Bool, true, false, cond}
 use mathlib.Core.List.{List, [], _∷_, _++_, map}
 use mathlib.Core.Option.{Option, none, some}
@@ -33,7 +33,7 @@ use Rattle.lookup.specs.Info.{wholeSize, structSize}
 use Rattle.lookup.specs.Told.{bytesTold}
 use Rattle.lookup.specs.declared.Bytes.{Bytes}
 use Rattle.lookup.specs.declared.Bytes.the-variants.{Known, Unknown}
-use Rattle.structs.specs.Structs.{markedFrom, markedSize, structTold}
+use Rattle.structs.specs.Structs.{markedFrom, markedOf, typesIn, markedIn, markedSize, structTold}
 
 -- ---- the marks of the types that read whole
 module _ (c : Catalog) (w : Text) where
@@ -64,7 +64,7 @@ module _ (c : Catalog) (w : Text) where
 
 -- the marks tell what the catalog tells
 pub marked-is : (c : Catalog) (old ms : List ℕ) (n : Node) → ms ≡ answered (wholeOf c) old → markedSize ms c n ≡ structSize c n
-unfolding markedSize structSize answered wholeOf typeNamed
+unfolding markedOf markedSize structSize answered wholeOf typeNamed
 marked-is c old ms n e =
     ap (λ x. cond (isStruct (n .kind)) (markedFrom x (n .typeName) (c .types) 0) none) e
     ∙ ap (λ x. cond (isStruct (n .kind)) x none) (marks-size c (n .typeName) (drop (length (map (wholeMark c) (c .types))) old) (c .types))
@@ -80,9 +80,8 @@ type-size-at s at p n e h =
 
 -- ---- the types of a file, front to back
 -- what is left of the types gives what all of them give
-pub marked-start : (ms s : List ℕ) (w : Text) (p n : ℕ) → p ≡ typesStart s → n ≡ valueAt counts s 1 .1
-    → markedFrom ms w (valueAt (many typeDef n) s p) 0 ≡ markedFrom ms w (catalogOf s .types) 0
-marked-start ms s w p n e g = ap (λ x. markedFrom ms w x 0) (ap₂ (λ x y. valueAt (many typeDef x) s y) g e ∙ sym (types-are s))
+pub marked-start : (ms s : List ℕ) (w : Text) (from n : ℕ) → n ≡ valueAt counts s 1 .1 → markedFrom ms w (valueAt (many typeDef n) s from) 0 ≡ markedFrom ms w (typesIn s from) 0
+marked-start ms s w from n g = ap (λ x. markedFrom ms w (valueAt (many typeDef x) s from) 0) g
 
 module _ (ms s : List ℕ) (w : Text) (at n k : ℕ) (all : Option ℕ) (i : markedFrom ms w (valueAt (many typeDef n) s at) k ≡ all) where
   pub marked-none : n ≤ 0 → Unknown ≡ bytesTold all
@@ -105,42 +104,46 @@ module _ (ms s : List ℕ) (w : Text) (at n k : ℕ) (all : Option ℕ) (i : mar
     pub marked-later : (q : ℕ) → r ≡ false → q ≡ placeAt typeDef s at → markedFrom ms w (valueAt (many typeDef (n - 1)) s q) (k + 1) ≡ all
     marked-later q y p = rw (p, add-one k) (rw y at first-is)
 
+-- where the types start, they are those of the catalog
+pub marked-in : (ms s : List ℕ) (from : ℕ) (n : Node) → from ≡ typesStart s → markedIn s from ms n ≡ markedSize ms (catalogOf s) n
+unfolding markedIn markedSize
+marked-in ms s from n e = ap (λ x. markedOf ms x n) (ap (typesIn s) e ∙ sym (types-are s))
+
 -- ---- a node at a place
-module _ (ms s : List ℕ) (at p q n : ℕ) (e : p ≡ textPast (drop at s) at) (g : q ≡ textPast (drop p s) p) (h : n ≡ limited 2 (whole 1 (take 1 (drop q s)))) (l : n ≤ 2) where
-  pub size-other : (n ≡ 1 → ⊥) → Unknown ≡ bytesTold (markedSize ms (catalogOf s) (valueAt node s at))
-  unfolding markedSize bytesTold
+module _ (ms s : List ℕ) (types at p q n : ℕ) (e : p ≡ textPast (drop at s) at) (g : q ≡ textPast (drop p s) p) (h : n ≡ limited 2 (whole 1 (take 1 (drop q s)))) (l : n ≤ 2) where
+  pub size-other : (n ≡ 1 → ⊥) → Unknown ≡ bytesTold (markedIn s types ms (valueAt node s at))
+  unfolding markedOf markedIn bytesTold
   size-other x = rw (← struct-at s at p q e g n h l, ne-eqb n 1 x)
 
-  pub size-struct : (a b : ℕ) (r : Bytes) → n ≡ 1 → part a b s ≡ textOf (drop p s) → r ≡ bytesTold (markedFrom ms (part a b s) (catalogOf s .types) 0)
-      → r ≡ bytesTold (markedSize ms (catalogOf s) (valueAt node s at))
-  unfolding markedSize
-  size-struct a b r x y z = rw (← struct-at s at p q e g n h l, eq-eqb n 1 x) (z ∙ ap (λ t. bytesTold (markedFrom ms t (catalogOf s .types) 0)) (type-name-at s at p a b e y))
+  pub size-struct : (a b : ℕ) (r : Bytes) → n ≡ 1 → part a b s ≡ textOf (drop p s) → r ≡ bytesTold (markedFrom ms (part a b s) (typesIn s types) 0) → r ≡ bytesTold (markedIn s types ms (valueAt node s at))
+  unfolding markedOf markedIn
+  size-struct a b r x y z = rw (← struct-at s at p q e g n h l, eq-eqb n 1 x) (z ∙ ap (λ t. bytesTold (markedFrom ms t (typesIn s types) 0)) (type-name-at s at p a b e y))
 
 -- ---- a node that was found
-module _ (ms s : List ℕ) (found : Found) where
-  pub size-nowhere : found ≡ Nowhere → Unknown ≡ bytesTold (andThen (foundIn s found) (markedSize ms (catalogOf s)))
+module _ (ms s : List ℕ) (types : ℕ) (found : Found) where
+  pub size-nowhere : found ≡ Nowhere → Unknown ≡ bytesTold (andThen (foundIn s found) (markedIn s types ms))
   unfolding foundIn andThen bytesTold
-  size-nowhere e = sym (ap (λ x. bytesTold (andThen (foundIn s x) (markedSize ms (catalogOf s)))) e)
+  size-nowhere e = sym (ap (λ x. bytesTold (andThen (foundIn s x) (markedIn s types ms))) e)
 
-  pub size-found : (p : ℕ) (r : Bytes) → found ≡ At p → r ≡ bytesTold (markedSize ms (catalogOf s) (valueAt node s p)) → r ≡ bytesTold (andThen (foundIn s found) (markedSize ms (catalogOf s)))
+  pub size-found : (p : ℕ) (r : Bytes) → found ≡ At p → r ≡ bytesTold (markedIn s types ms (valueAt node s p)) → r ≡ bytesTold (andThen (foundIn s found) (markedIn s types ms))
   unfolding foundIn andThen
-  size-found p r e h = h ∙ sym (ap (λ x. bytesTold (andThen (foundIn s x) (markedSize ms (catalogOf s)))) e)
+  size-found p r e h = h ∙ sym (ap (λ x. bytesTold (andThen (foundIn s x) (markedIn s types ms))) e)
 
 -- ---- the marks of a file
 module _ (s old ms : List ℕ) (o : Option Node) (t : Bool) (room : length old ≡ 128) (W : WholeTold (catalogOf s) old ms t) where
   told-is : isMarkable (catalogOf s) 128 ≡ t
   told-is = sym (W .is ∙ ap (isMarkable (catalogOf s)) room)
 
-  pub told-whole : (r : Bytes) → t ≡ true → r ≡ bytesTold (andThen o (markedSize ms (catalogOf s))) → r ≡ bytesTold (structTold (catalogOf s) o)
+  pub told-whole : (r : Bytes) (types : ℕ) → t ≡ true → types ≡ typesStart s → r ≡ bytesTold (andThen o (markedIn s types ms)) → r ≡ bytesTold (structTold (catalogOf s) o)
   unfolding structTold andThen
-  told-whole r y h = rw (told-is, y) (h ∙ ap bytesTold (each o))
+  told-whole r types y start h = rw (told-is, y) (h ∙ ap bytesTold (each o))
     where
       marks-are : ms ≡ answered (wholeOf (catalogOf s)) old
       marks-are = rw y at (W .bytes)
 
-      each : (o : Option Node) → andThen o (markedSize ms (catalogOf s)) ≡ andThen o (structSize (catalogOf s))
+      each : (o : Option Node) → andThen o (markedIn s types ms) ≡ andThen o (structSize (catalogOf s))
       each none = refl
-      each (some n) = marked-is (catalogOf s) old ms n marks-are
+      each (some n) = marked-in ms s types n start ∙ marked-is (catalogOf s) old ms n marks-are
 
   pub told-not : t ≡ false → Unknown ≡ bytesTold (structTold (catalogOf s) o)
   unfolding structTold bytesTold

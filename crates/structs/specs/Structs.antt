@@ -6,7 +6,9 @@ use mathlib.Core.List.{List, [], _∷_}
 use mathlib.Core.Option.{Option, none, some}
 use Rattle.fields.specs.Options.{andThen}
 use Rattle.fields.specs.Text.{Text}
-use Rattle.catalog.specs.Catalog.{Node, TypeDef, Catalog}
+use Rattle.fields.specs.Format.{many}
+use Rattle.fields.specs.Places.{valueAt}
+use Rattle.catalog.specs.Catalog.{Node, TypeDef, Catalog, typeDef, counts}
 use Rattle.catalog.specs.Finding.{isStruct, isTyped}
 use Rattle.nesting.specs.Graph.{marked}
 use Rattle.types.specs.Whole.{isMarkable}
@@ -17,9 +19,21 @@ unfoldable pub markedFrom : List ℕ → Text → List TypeDef → ℕ → Optio
 markedFrom ms w [] k = none
 markedFrom ms w (d ∷ ds) k = cond (isTyped w d) (cond (marked ms k) (some (d .size)) none) (markedFrom ms w ds (suc k))
 
--- plc.rs `struct_size`, by the marks of the types that read whole
+-- plc.rs `struct_size`, by the marks of these types, those that read whole
+unfoldable pub markedOf : List ℕ → List TypeDef → Node → Option ℕ
+markedOf ms ds n = cond (isStruct (n .kind)) (markedFrom ms (n .typeName) ds 0) none
+
+-- the types of a file `s` from the place `from` on
+abbrev pub typesIn : List ℕ → ℕ → List TypeDef
+typesIn s from = valueAt (many typeDef (valueAt counts s 1 .1)) s from
+
+-- the size of a node of a file `s`, by its types from the place `from` on
+unfoldable pub markedIn : List ℕ → ℕ → List ℕ → Node → Option ℕ
+markedIn s from ms n = markedOf ms (typesIn s from) n
+
+-- the size of a node of a catalog
 unfoldable pub markedSize : List ℕ → Catalog → Node → Option ℕ
-markedSize ms c n = cond (isStruct (n .kind)) (markedFrom ms (n .typeName) (c .types) 0) none
+markedSize ms c n = markedOf ms (c .types) n
 
 -- plc.rs `struct_size` of a node that was found; none in a catalog of which no type can be marked
 unfoldable pub structTold : Catalog → Option Node → Option ℕ

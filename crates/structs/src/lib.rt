@@ -17,7 +17,7 @@ ghost use Rattle.fields.specs.Places.{valueAt};
 ghost use Rattle.catalog.specs.Catalog.{node, typeDef, catalogOf};
 ghost use Rattle.nodes.specs.Reading.{foundIn};
 ghost use Rattle.lookup.specs.Told.{bytesTold};
-ghost use Rattle.structs.specs.Structs.{markedFrom, markedSize, structTold};
+ghost use Rattle.structs.specs.Structs.{markedFrom, typesIn, markedIn, structTold};
 
 // The size of the type at a place.
 fn type_size(s: &[u8], at: usize) -> u64
@@ -28,11 +28,11 @@ fn type_size(s: &[u8], at: usize) -> u64
     n as u64
 }
 
-// The size of the first type of a name, if it is marked.
-fn marked_type(s: &[u8], marks: &[u8], name: &[u8]) -> Bytes
-    ensures { λ r. ⌜ r ≡ bytesTold (markedFrom (now (marks .entry)) (now (name .entry)) (catalogOf (now (s .entry)) .types) 0) ⌝ }
+// The size of the first type of a name, if it is marked, of the types that stand from a place on.
+fn marked_type(s: &[u8], types: usize, marks: &[u8], name: &[u8]) -> Bytes
+    ensures { λ r. ⌜ r ≡ bytesTold (markedFrom (now (marks .entry)) (now (name .entry)) (typesIn (now (s .entry)) types) 0) ⌝ }
 {
-    let mut at = types_start(s);
+    let mut at = types;
     let mut n = type_count(s);
     let mut k = 0;
     while 0 < n {
@@ -50,8 +50,8 @@ fn marked_type(s: &[u8], marks: &[u8], name: &[u8]) -> Bytes
 }
 
 // The size of the node at a place, if it is a struct and its type is marked.
-fn node_size(s: &[u8], marks: &[u8], at: usize) -> Bytes
-    ensures { λ r. ⌜ r ≡ bytesTold (markedSize (now (marks .entry)) (catalogOf (now (s .entry))) (valueAt node (now (s .entry)) at)) ⌝ }
+fn node_size(s: &[u8], types: usize, marks: &[u8], at: usize) -> Bytes
+    ensures { λ r. ⌜ r ≡ bytesTold (markedIn (now (s .entry)) types (now (marks .entry)) (valueAt node (now (s .entry)) at)) ⌝ }
 {
     let of = text_past(s, at);
     let kind = text_past(s, of);
@@ -61,16 +61,16 @@ fn node_size(s: &[u8], marks: &[u8], at: usize) -> Bytes
     let t = text_at(s, of);
     let start = t.start;
     let end = t.end;
-    marked_type(s, marks, &s[start..end])
+    marked_type(s, types, marks, &s[start..end])
 }
 
-// The size of a struct node that was found, if its type is marked.
-pub fn struct_size(s: &[u8], marks: &[u8], found: Found) -> Bytes
-    ensures { λ r. ⌜ r ≡ bytesTold (andThen (foundIn (now (s .entry)) found) (markedSize (now (marks .entry)) (catalogOf (now (s .entry))))) ⌝ }
+// The size of a struct node that was found, if its type is marked, of the types that stand from a place on.
+pub fn struct_size(s: &[u8], types: usize, marks: &[u8], found: Found) -> Bytes
+    ensures { λ r. ⌜ r ≡ bytesTold (andThen (foundIn (now (s .entry)) found) (markedIn (now (s .entry)) types (now (marks .entry)))) ⌝ }
 {
     match found {
         Found::Nowhere => Bytes::Unknown,
-        Found::At(p) => node_size(s, marks, p),
+        Found::At(p) => node_size(s, types, marks, p),
     }
 }
 
@@ -80,7 +80,7 @@ pub fn whole_size(s: &[u8], found: Found) -> Bytes
 {
     let mut marks = [0; 128];
     if whole_types(s, &mut marks) {
-        return struct_size(s, &marks, found);
+        return struct_size(s, types_start(s), &marks, found);
     }
     Bytes::Unknown
 }

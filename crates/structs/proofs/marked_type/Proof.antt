@@ -4,28 +4,25 @@ use mathlib.Core.Path.{_≡_}
 use native.Mathlib.Omega.{arith}
 use borrow.Author.Needs.{needs}
 use denote.Ref.{now}
-use Rattle.structs.specs.Structs.{markedFrom}
+use Rattle.structs.specs.Structs.{markedFrom, typesIn}
 use Rattle.fields.specs.Format.{many}
 use Rattle.fields.specs.Places.{valueAt}
-use Rattle.catalog.specs.Catalog.{typeDef, catalogOf}
+use Rattle.catalog.specs.Catalog.{typeDef}
 use Rattle.structs.proofs.Marked.{marked-start, marked-here, marked-not, marked-later, marked-none}
 use Rattle.structs.proofs.marked_type.Statement.{statement}
 use Rattle.structs.proofs.marked_type.Tie as tie
 
 abbrev Inv-loop : tie.InvT-loop
-Inv-loop s marks name at₀ n₀ k₀ at n k = (markedFrom marks name (valueAt (many typeDef n) s at) k ≡ markedFrom marks name (catalogOf s .types) 0) × (k + n ≤ 128)
+Inv-loop s types marks name at₀ n₀ k₀ at n k = (markedFrom marks name (valueAt (many typeDef n) s at) k ≡ markedFrom marks name (typesIn s types) 0) × (k + n ≤ 128)
 
 abbrev μ-loop : tie.MeasureT-loop
-μ-loop s marks name at₀ n₀ k₀ at n k = n
-
-types-start-requires : tie.Need-types-start-requires Inv-loop μ-loop
-types-start-requires c κs = search needs
+μ-loop s types marks name at₀ n₀ k₀ at n k = n
 
 type-count-requires : tie.Need-type-count-requires Inv-loop μ-loop
 type-count-requires c κs = search needs
 
 loop-holds : tie.Need-loop-holds Inv-loop μ-loop
-loop-holds c = let a = c .before .before .before .before .before .args in (marked-start (now (a .marks)) (now (a .s)) (now (a .name)) _ _ (c .before .types-start .ensures) (c .type-count .ensures .0), omega (arith, c .type-count .ensures .1))
+loop-holds c = let a = c .before .before .before .before .args in (marked-start (now (a .marks)) (now (a .s)) (now (a .name)) _ _ (c .type-count .ensures .0), omega (arith, c .type-count .ensures .1))
 
 is-named-requires : tie.Need-is-named-requires Inv-loop μ-loop
 is-named-requires c κs = search needs
@@ -66,7 +63,6 @@ marked-type-spec =
     (tie.spec
     Inv-loop
     μ-loop
-    types-start-requires
     type-count-requires
     loop-holds
     is-named-requires

@@ -14,10 +14,10 @@ node-size-requires : tie.Need-node-size-requires
 node-size-requires c κs = search needs
 
 returns : tie.Need-returns
-returns c = size-nowhere _ _ _ (c .enum-told .given .1)
+returns c = size-nowhere _ _ _ _ (c .enum-told .given .1)
 
 returns-2 : tie.Need-returns-2
-returns-2 c = size-found _ _ _ _ _ (c .before .before .found .given .1) (c .node-size .ensures)
+returns-2 c = size-found _ _ _ _ _ _ (c .before .before .found .given .1) (c .node-size .ensures)
 
 pub struct-size-spec : {M : Type 1} → statement M
 struct-size-spec =

@@ -1,9 +1,9 @@
--- `node_of_path` meets its contract: the first part, with the program part before it, names the tag.
-use mathlib.Core.Path.{sym}
+-- `node_of_path` meets its contract: the first part, with the program part before it, names the tag, and where no part is left it is the tag.
+use mathlib.Core.Path.{refl, sym}
 use lib.Seq.{length-take-le}
 use borrow.Author.Needs.{needs}
 use denote.Ref.{now}
-use Rattle.lookup.proofs.Paths.{part-within, path-found, path-missing}
+use Rattle.lookup.proofs.Paths.{part-within, members-end, path-found, path-missing}
 use Rattle.lookup.proofs.info.node_of_path.Statement.{statement}
 use Rattle.lookup.proofs.info.node_of_path.Tie as tie
 
@@ -22,14 +22,20 @@ enum-told c = search needs
 enum-known-found : tie.Need-enum-known-found
 enum-known-found c = search needs
 
-members-of-requires : tie.Need-members-of-requires
-members-of-requires c κs = search needs
-
 returns : tie.Need-returns
-returns c = path-missing _ _ _ _ (c .before .before .before .before .before .before .before .pre) (c .before .before .before .before .place-of .ensures) _ (c .before .before .find-tag .ensures) (c .enum-told .given .1)
+returns c = path-found _ _ _ _ (c .before .before .before .before .before .before .before .before .before .pre) (c .before .before .before .before .before .before .place-of .ensures) _ (c .before .before .before .before .find-tag .ensures) _ _ (c .before .before .found .given .1) (members-end _ _ _ _ _ (c .if1 .taken) refl)
+
+types-start-requires : tie.Need-types-start-requires
+types-start-requires c κs = search needs
+
+members-of-requires : tie.Need-members-of-requires
+members-of-requires c κs = c .types-start .ensures
 
 returns-2 : tie.Need-returns-2
-returns-2 c = path-found _ _ _ _ (c .before .before .before .before .before .before .before .before .before .pre) (c .before .before .before .before .before .before .place-of .ensures) _ (c .before .before .before .before .find-tag .ensures) _ _ (c .before .before .found .given .1) (c .members-of .ensures)
+returns-2 c = path-missing _ _ _ _ (c .before .before .before .before .before .before .before .pre) (c .before .before .before .before .place-of .ensures) _ (c .before .before .find-tag .ensures) (c .enum-told .given .1)
+
+returns-3 : tie.Need-returns-3
+returns-3 c = path-found _ _ _ _ (c .before .before .before .before .before .before .before .before .before .before .before .pre) (c .before .before .before .before .before .before .before .before .place-of .ensures) _ (c .before .before .before .before .before .before .find-tag .ensures) _ _ (c .before .before .before .before .found .given .1) (c .members-of .ensures)
 
 pub node-of-path-spec : {M : Type 1} → statement M
 node-of-path-spec =
@@ -40,6 +46,8 @@ node-of-path-spec =
     find-tag-requires
     enum-told
     enum-known-found
-    members-of-requires
     returns
-    returns-2)
+    types-start-requires
+    members-of-requires
+    returns-2
+    returns-3)

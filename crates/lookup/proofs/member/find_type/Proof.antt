@@ -6,25 +6,22 @@ use Rattle.catalog.specs.Finding.{find}
 use Rattle.catalog.specs.Catalog.{typeDef}
 use Rattle.nodes.specs.Placed.{isNamedAt}
 use Rattle.nodes.proofs.Finds.{search-none, search-here, search-later}
-use Rattle.lookup.specs.Placed.{typePlace}
-use Rattle.lookup.proofs.Types.{types-start}
+use Rattle.lookup.specs.Placed.{typePlaceIn}
+use Rattle.lookup.proofs.Types.{types-counted}
 use Rattle.lookup.proofs.member.find_type.Statement.{statement}
 use Rattle.lookup.proofs.member.find_type.Tie as tie
 
 abbrev Inv-loop : tie.InvT-loop
-Inv-loop s name at₀ k₀ at k = find (isNamedAt s name) (placesFrom typeDef k s at) ≡ typePlace s name
+Inv-loop s types name at₀ k₀ at k = find (isNamedAt s name) (placesFrom typeDef k s at) ≡ typePlaceIn s types name
 
 abbrev μ-loop : tie.MeasureT-loop
-μ-loop s name at₀ k₀ at k = k
-
-types-start-requires : tie.Need-types-start-requires Inv-loop μ-loop
-types-start-requires c κs = search needs
+μ-loop s types name at₀ k₀ at k = k
 
 type-count-requires : tie.Need-type-count-requires Inv-loop μ-loop
 type-count-requires c κs = search needs
 
 loop-holds : tie.Need-loop-holds Inv-loop μ-loop
-loop-holds c = types-start _ _ _ _ (c .before .types-start .ensures) (c .type-count .ensures .0)
+loop-holds c = types-counted _ _ _ _ (c .type-count .ensures .0)
 
 is-named-requires : tie.Need-is-named-requires Inv-loop μ-loop
 is-named-requires c κs = search needs
@@ -55,7 +52,6 @@ find-type-spec =
     (tie.spec
     Inv-loop
     μ-loop
-    types-start-requires
     type-count-requires
     loop-holds
     is-named-requires

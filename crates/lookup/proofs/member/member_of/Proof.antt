@@ -34,10 +34,10 @@ enum-told : tie.Need-enum-told
 enum-told c = search needs
 
 returns : tie.Need-returns
-returns c = step-found _ _ _ _ (type-name-at _ _ _ (c .before .before .before .before .before .before .text-at .result .start) (c .before .before .before .before .before .before .text-at .result .end) (c .before .before .before .before .before .before .before .text-past .ensures) (part-text _ _ _ (c .before .before .before .before .before .before .text-at .ensures .0))) _ (c .before .before .before .before .find-type .ensures) _ _ (c .before .before .found .given .1) (c .find-member .ensures)
+returns c = step-found _ _ _ _ _ (type-name-at _ _ _ (c .before .before .before .before .before .before .text-at .result .start) (c .before .before .before .before .before .before .text-at .result .end) (c .before .before .before .before .before .before .before .text-past .ensures) (part-text _ _ _ (c .before .before .before .before .before .before .text-at .ensures .0))) _ (c .before .before .before .before .find-type .ensures) _ _ (c .before .before .found .given .1) (c .find-member .ensures)
 
 returns-2 : tie.Need-returns-2
-returns-2 c = step-missing _ _ _ _ (type-name-at _ _ _ (c .before .before .before .before .text-at .result .start) (c .before .before .before .before .text-at .result .end) (c .before .before .before .before .before .text-past .ensures) (part-text _ _ _ (c .before .before .before .before .text-at .ensures .0))) _ (c .before .before .find-type .ensures) (c .enum-told .given .1)
+returns-2 c = step-missing _ _ _ _ _ (type-name-at _ _ _ (c .before .before .before .before .text-at .result .start) (c .before .before .before .before .text-at .result .end) (c .before .before .before .before .before .text-past .ensures) (part-text _ _ _ (c .before .before .before .before .text-at .ensures .0))) _ (c .before .before .find-type .ensures) (c .enum-told .given .1)
 
 pub member-of-spec : {M : Type 1} → statement M
 member-of-spec =
