@@ -2,8 +2,9 @@
 
 use crate::bytes::{Writer, table};
 use crate::catalog::Catalog;
-use crate::plan;
+use crate::plan::{self, PlannedRead};
 use crate::planner::{self, reach};
+use crate::plc;
 
 /// The groups file of two size tables.
 pub fn chunks(requests: &[u8], replies: &[u8], budget: u16) -> Result<Vec<u8>, String> {
@@ -17,15 +18,21 @@ pub fn packets(requests: &[u8], replies: &[u8], budget: u16) -> Result<Vec<u8>, 
     Ok((packets as u64).to_be_bytes().to_vec())
 }
 
-/// The groups file of a plan's reads. `chunks` itself splits the reads; the count comes from its packing.
+/// The groups file of a plan's reads.
 pub fn plan_chunks(catalog: &[u8], plan: &[u8], budget: u16) -> Result<Vec<u8>, String> {
     let catalog = Catalog::read(catalog)?.to_rust();
-    let reads = plan::read(plan)?;
-    let sizes: Vec<_> = reads.iter().map(|r| reach::read_size(&r.name, &catalog)).collect();
-    let groups = reach::chunks(&reads, &catalog, budget.into());
+    let (groups, packets) = of_reads(&plan::read(plan)?, &catalog, budget);
+    Ok(write(&groups, packets))
+}
+
+/// The groups of a plan's reads by their positions, and the packet count. `chunks` itself splits the reads; the count
+/// comes from its packing.
+pub fn of_reads(reads: &[PlannedRead], catalog: &plc::Catalog, budget: u16) -> (Vec<Vec<usize>>, usize) {
+    let sizes: Vec<_> = reads.iter().map(|r| reach::read_size(&r.name, catalog)).collect();
+    let groups = reach::chunks(reads, catalog, budget.into());
     let (packed, packets) = reach::pack(&sizes, budget.into());
     assert_eq!(groups, packed, "chunks splits as pack does");
-    Ok(write(&groups, packets))
+    (groups, packets)
 }
 
 fn sizes(requests: &[u8], replies: &[u8]) -> Result<Vec<(usize, usize)>, String> {

@@ -1,5 +1,5 @@
-//! The command line: `oracle CALL INPUTS..` answers one call; `table`, `store`, `stored`, `cases` and `compare` work on
-//! cases made from a seed.
+//! The command line: `oracle CALL INPUTS..` answers one call, `listing` prints a plan; `table`, `store`, `stored`, `cases`
+//! and `compare` work on cases made from a seed.
 
 use std::io::Write;
 use std::path::Path;
@@ -7,7 +7,7 @@ use std::process::ExitCode;
 
 use oracle::compare;
 use oracle::kinds::{self, BUDGET, Fields, KINDS, Kind, NAME};
-use oracle::{store, table, worst};
+use oracle::{listing, store, table, worst};
 
 fn main() -> ExitCode {
     let mut words: Vec<String> = std::env::args().skip(1).collect();
@@ -47,6 +47,10 @@ fn run(words: &[&str], hex: bool) -> Result<bool, String> {
             let library = compare::linked()?;
             let (lines, same) = compare::compare(&library, kind, number(count)?, number(seed)? as u64)?;
             Ok(print(&lines, same))
+        }
+        ["listing", catalog, list] => {
+            let file = |name: &str| std::fs::read(name).map_err(|e| format!("{name}: {e}"));
+            Ok(print(&listing::lines(&file(catalog)?, &file(list)?)?, true))
         }
         ["worst"] => Ok(print(&worst::lines(&compare::linked()?), true)),
         [call, inputs @ ..] => match kinds::named(call) {
@@ -102,6 +106,7 @@ fn usage() -> String {
     lines.push("  oracle stored FOLDER SEED".to_owned());
     lines.push("  oracle cases KIND COUNT SEED FOLDER".to_owned());
     lines.push("  oracle compare KIND COUNT SEED".to_owned());
+    lines.push("  oracle listing CATALOG LIST".to_owned());
     lines.push("  oracle worst".to_owned());
     lines.join("\n")
 }
