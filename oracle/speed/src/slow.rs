@@ -16,8 +16,8 @@ const CHAINS: usize = TAGS / (DEEPEST + 1);
 /// What is slow, with its catalog and list.
 pub fn all() -> Vec<(&'static str, Catalog, List)> {
     vec![
-        ("127 tags of 128 bytes, 40 structs above each pair", pair_catalog(), pairs(127, 128)),
-        ("256 tags of 62 bytes, 19 structs above each pair", pair_catalog(), pairs(TAGS, LENGTH)),
+        ("126 tags of 128 bytes, 40 structs above each pair", pair_catalog(), pairs(126, 128)),
+        ("256 tags of 62 bytes, 18 structs above each pair", pair_catalog(), pairs(TAGS, LENGTH)),
         ("structs at the end of 1,024 tags alike but for the last bytes", alike_catalog(), alike(false)),
         ("the same in other letters", alike_catalog(), alike(true)),
         ("structs 16 deep, the last of 256 members at each level", deep_catalog(1), deep(false)),
@@ -52,7 +52,7 @@ fn pair_catalog() -> Catalog {
 /// the name that all have in common is barred, so that the pairs merge one by one.
 fn pairs(count: usize, length: usize) -> List {
     let tag = |n: usize| {
-        let head = format!("A[{:03}]", n / 2);
+        let head = format!("A[{:0width$}]", n / 2, width = 3 + length % 3);
         let brackets = (length - head.len()) / 3 - 1;
         format!("{head}{}[{}]", "[1]".repeat(brackets), n % 2)
     };
@@ -164,9 +164,18 @@ mod tests {
     #[test]
     fn all_are_inside_the_limits() {
         for (what, catalog, list) in super::all() {
-            assert_eq!(Catalog::read(&catalog.write()).as_ref(), Ok(&catalog), "{what}");
-            assert_eq!(List::read(&list.write()).as_ref(), Ok(&list), "{what}");
-            assert!(list.tags.len() >= 127, "{what}");
+            assert!(Catalog::read(&catalog.write()) == Ok(catalog), "{what}");
+            assert!(List::read(&list.write()).as_ref() == Ok(&list), "{what}");
+            assert!(list.tags.len() >= 126, "{what}");
+        }
+    }
+
+    #[test]
+    fn the_pairs_are_as_long_as_said() {
+        for (count, length, structs) in [(126, 128, 40), (super::TAGS, super::LENGTH, 18)] {
+            let tags = super::pairs(count, length).tags;
+            let brackets = |tag: &String| tag.matches('[').count();
+            assert!(tags.iter().all(|tag| tag.len() == length && brackets(tag) == structs + 1), "{}", tags[0]);
         }
     }
 }
