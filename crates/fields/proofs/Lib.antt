@@ -7,6 +7,7 @@ pub mod Lawful
 pub mod LawfulFields
 pub mod Lists
 pub mod Numbers
+pub mod Options
 pub mod Patches
 pub mod Reading
 pub mod Rows

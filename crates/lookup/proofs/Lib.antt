@@ -3,3 +3,4 @@ pub mod Paths
 pub mod Placed
 pub mod Plain
 pub mod Types
+pub mod Fronts

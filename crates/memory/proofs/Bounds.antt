@@ -14,6 +14,7 @@ use Rattle.fields.specs.Format.{All, _then_, leading, mapped, many}
 use Rattle.fields.specs.Fields.{number, numeric, counted}
 use Rattle.fields.specs.Decimal.{numberEnd}
 use Rattle.fields.proofs.Lists.{all-weaken}
+use Rattle.fields.proofs.Options.{none-some, some-is, then-some}
 use Rattle.names.specs.Name.{Key, member, item, several, Token}
 use Rattle.catalog.specs.Catalog.{Node, TypeDef, Catalog, node, typeDef, tagsAndTypes, countsOf, catalog}
 use Rattle.catalog.specs.Finding.{find, any, isTyped, typeNamed}
@@ -23,7 +24,6 @@ use Rattle.lookup.specs.Atomic.{atomicSize}
 use Rattle.sizes.specs.Sizes.{bitTypes}
 use Rattle.planner.proofs.Each.{IfThere, of-found}
 use Rattle.memory.specs.Fitting.{Shape, anyValue, leafOf, stringShape, structOf, itemsOf, bitsOf, someBits, sided, atomicShape, structShape, singleShape, rowShape, sidesShape, shapeOf, isBelow, calledIn, memberIn, indexedBy, nodeBehind, nodeAlong, nodeOf}
-use Rattle.memory.proofs.Options.{none-some, some-is, then-some}
 use Rattle.memory.proofs.Fit.{each-called}
 
 -- a node whose dimensions are below the end of numbers

@@ -10,6 +10,7 @@ use Rattle.fields.specs.Text.{Text, bytes, lowered, same, alike}
 use Rattle.fields.specs.Options.{andThen, orElse}
 use Rattle.fields.specs.Format.{All}
 use Rattle.fields.proofs.Texts.{same-is, is-alike}
+use Rattle.fields.proofs.Options.{none-some, then-some}
 use Rattle.names.specs.Name.{Key, member, item, several, Token}
 use Rattle.catalog.specs.Catalog.{Node, TypeDef, Catalog}
 use Rattle.catalog.specs.Finding.{find, any, every, isTyped, typeNamed}
@@ -26,7 +27,6 @@ use Rattle.planner.proofs.Leads.{isFirstOf, Single}
 use Rattle.memory.specs.Fitting.{Shape, anyValue, leafOf, stringShape, structOf, itemsOf, bitsOf, someBits, sided, atomicShape, structShape, singleShape, rowShape, sidesShape, shapeOf, Fits, fitsAny, fitsLeaf, fitsString, fitsStruct, fitsItems, fitsBits, fitsSomeBits, FitsMembers, fitsNoMember, fitsMember, memberIn, nodeBehind, nodeAlong}
 use Rattle.memory.specs.Reading.{memberOf, itemOf, valueBehind, valueAlong}
 use Rattle.memory.specs.Demand.{keysOf}
-use Rattle.memory.proofs.Options.{none-some, then-some}
 use Rattle.memory.proofs.Fit.{not-any, step-found}
 
 -- ---- names apart

@@ -12,6 +12,7 @@ use Rattle.fields.specs.Text.{Text, bytes, lowered, same, alike}
 use Rattle.fields.specs.Options.{andThen}
 use Rattle.fields.specs.Format.{All}
 use Rattle.fields.proofs.Lists.{eqb-sym}
+use Rattle.fields.proofs.Options.{none-some, some-is, then-id, then-some}
 use Rattle.names.specs.Name.{Key, member, item, several, Token, tokensOf}
 use Rattle.catalog.specs.Catalog.{Node, Catalog}
 use Rattle.catalog.specs.Finding.{find, any, holds}
@@ -22,7 +23,6 @@ use Rattle.values.specs.Value.{text as string, item as oneItem, member as oneMe
 use Rattle.values.specs.File.{itemCount}
 use Rattle.memory.specs.Fitting.{Shape, anyValue, leafOf, stringShape, structOf, itemsOf, bitsOf, someBits, sided, rowShape, sidesShape, shapeOf, Fits, fitsAny, fitsLeaf, fitsString, fitsStruct, fitsItems, fitsBits, fitsSomeBits, FitsItems, fitsNoItem, fitsItem, FitsMembers, fitsNoMember, fitsMember, Memory, MemoryFits, isBelow, calledIn, memberIn, indexedBy, nodeBehind, nodeAlong, nodeOf, tagFits}
 use Rattle.memory.specs.Reading.{memberOf, itemOf, itemAlong, valueBehind, valueAlong, baseValue, readTokens}
-use Rattle.memory.proofs.Options.{none-some, some-is, then-id, then-some}
 
 -- what reading gave is a value that fits the node
 pub record Found (c : Catalog) (r : Option Value) (n : Node) : Type 0 where

@@ -7,6 +7,7 @@ use mathlib.Core.List.{List, [], _∷_, _++_}
 use mathlib.Core.Option.{some}
 use lib.ListN.{length}
 use Rattle.fields.specs.Options.{andThen}
+use Rattle.fields.proofs.Options.{There, none-some, some-is, Through, then-assoc, then-same, then-there, then-some}
 use Rattle.names.specs.Name.{Token}
 use Rattle.catalog.specs.Catalog.{Node, Catalog}
 use Rattle.values.specs.Value.{Value, leaf, array, struct, Items, noItem, nth}
@@ -14,7 +15,6 @@ use Rattle.values.specs.Value.{text as string, item as oneItem}
 use Rattle.values.specs.File.{itemCount}
 use Rattle.memory.specs.Fitting.{Memory, calledIn, nodeBehind, nodeAlong, nodeOf}
 use Rattle.memory.specs.Reading.{itemOf, valueBehind, valueAlong, baseValue, readTokens, firstItems, itemsFrom, rowOf, rowBehind, rowBy, readRow}
-use Rattle.memory.proofs.Options.{There, none-some, some-is, Through, then-assoc, then-same, then-there, then-some}
 
 -- ---- longer names
 along-append : (v : Value) (ts us : List Token) → valueAlong v (ts ++ us) ≡ andThen (valueAlong v ts) (λ w. valueAlong w us)

@@ -1,4 +1,3 @@
-pub mod Options
 pub mod Spelling
 pub mod Fit
 pub mod Digs

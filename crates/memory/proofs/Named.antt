@@ -10,28 +10,24 @@ use lib.ListN.{length, take, drop, take-append-drop, length-append}
 use Rattle.fields.specs.Text.{Text, lowered}
 use Rattle.fields.specs.Decimal.{numberEnd, decimal}
 use Rattle.fields.proofs.Decimals.{numeral-decimal}
+use Rattle.fields.proofs.Options.{none-some}
 use Rattle.names.specs.Name.{Key, member, item, Token, Reading, tokens, stops, listed, tokensOf, spelling, bracket, lowerToken, lowerReading}
 use Rattle.names.specs.Name.{readName as nameRead}
 use Rattle.names.specs.Range.{brace}
 use Rattle.names.proofs.Growing.{indexed-name}
 use Rattle.names.proofs.Ranges.{counted-name, named-no-range}
-use Rattle.names.proofs.Spelling.{First, first-token, fronts, stops-tokens}
+use Rattle.names.proofs.Spelling.{tokens-are, First, first-token, fronts, stops-tokens}
 use Rattle.names.proofs.Lowering.{alike-reads}
 use Rattle.catalog.specs.Catalog.{Node, Catalog}
 use Rattle.values.specs.Value.{Value}
 use Rattle.planner.specs.Merging.{elementName}
 use Rattle.memory.specs.Fitting.{Memory, nodeOf, tagFits}
 use Rattle.memory.specs.Reading.{valueAlong, readTokens, readRow, readBy, readName}
-use Rattle.memory.proofs.Options.{none-some}
 use Rattle.memory.proofs.Fit.{tag-node}
 use Rattle.memory.proofs.Folds.{read-on}
 use Rattle.memory.proofs.Spelling.{AlikeTokens, names-alike}
 
 -- ---- names by their tokens
-pub tokens-are : (s : Text) (ts : List Token) → nameRead s ≡ tokens ts → tokensOf s ≡ ts
-unfolding tokensOf listed
-tokens-are s ts e = rw e
-
 -- a name with tokens is read by them
 pub name-reads : (c : Catalog) (m : Memory) (s : Text) (ts : List Token) → nameRead s ≡ tokens ts → readName c m s ≡ readTokens c m ts
 unfolding readName readBy

@@ -9,10 +9,11 @@ use lib.ListN.{length, take, drop, length-take}
 use Rattle.fields.specs.Text.{Text, lowered}
 use Rattle.fields.specs.Options.{andThen}
 use Rattle.fields.specs.Decimal.{numberEnd, decimal}
+use Rattle.fields.proofs.Options.{some-is, then-id, then-there, then-some}
 use Rattle.names.specs.Name.{Key, item, Token, tokens, tokensOf, spelling, bracket}
 use Rattle.names.specs.Name.{readName as nameRead}
 use Rattle.names.specs.Range.{brace}
-use Rattle.names.proofs.Spelling.{first-token}
+use Rattle.names.proofs.Spelling.{tokens-are, first-token}
 use Rattle.catalog.specs.Catalog.{Catalog}
 use Rattle.plans.specs.Plans.{Step, indexed, Member}
 use Rattle.values.specs.Value.{Value, array, stepInto, leads}
@@ -20,13 +21,12 @@ use Rattle.planner.specs.Merging.{elementName}
 use Rattle.memory.specs.Fitting.{Memory, MemoryFits, nodeBehind, nodeAlong, nodeOf}
 use Rattle.memory.specs.Reading.{itemOf, valueBehind, valueAlong, readTokens, rowBehind, readName, rowOf}
 use Rattle.memory.specs.Demand.{keysOf, Leads}
-use Rattle.memory.proofs.Options.{some-is, then-id, then-there, then-some}
 use Rattle.memory.proofs.Spelling.{read-alike}
 use Rattle.memory.proofs.Fit.{step-found, read-found}
 use Rattle.memory.proofs.Digs.{index-leads}
 use Rattle.memory.proofs.Folds.{read-row-append, row-item, row-there, node-split}
 use Rattle.memory.proofs.Bounds.{ShortCatalog, index-short}
-use Rattle.memory.proofs.Named.{tokens-are, Fitting, front-like, last-index, run-reads, alone-reads}
+use Rattle.memory.proofs.Named.{Fitting, front-like, last-index, run-reads, alone-reads}
 
 -- ---- a run
 -- an element of an array, by the tag that names it: the array's value, and the item in it

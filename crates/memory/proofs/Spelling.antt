@@ -14,6 +14,7 @@ use Rattle.fields.specs.Options.{andThen}
 use Rattle.fields.specs.Decimal.{numeralOf}
 use Rattle.fields.proofs.Texts.{lowered-lowered, length-lowered, take-lowered, drop-lowered, eqb-lower}
 use Rattle.fields.proofs.Decimals.{numeral-lowered}
+use Rattle.fields.proofs.Options.{then-same}
 use Rattle.names.specs.Name.{Key, member, item, several, Token, Reading, tokens, stops, listed, tokensOf, lowerKey, lowerToken, lowerReading}
 use Rattle.names.specs.Name.{readName as nameRead}
 use Rattle.names.specs.Range.{Range, lastFrom, beforeBrace, rangeAt, rangeOf}
@@ -26,7 +27,6 @@ use Rattle.values.specs.Value.{text as string, member as oneMember}
 use Rattle.sizes.specs.Sizes.{isEmpty}
 use Rattle.memory.specs.Fitting.{Shape, anyValue, leafOf, stringShape, structOf, itemsOf, bitsOf, someBits, shapeOf, Memory, calledIn, memberIn, nodeBehind, nodeAlong, nodeOf, tagFits}
 use Rattle.memory.specs.Reading.{memberOf, valueBehind, valueAlong, baseValue, readTokens, rowBehind, rowBy, readRow, readBy, readName}
-use Rattle.memory.proofs.Options.{then-same}
 
 -- ---- names looked for
 find-same : {A : Type 0} (p q : A → Bool) → ((x : A) → p x ≡ q x) → (xs : List A) → find p xs ≡ find q xs

@@ -13,7 +13,8 @@ use Rattle.names.specs.Name.{Key, member, item, Token, tokens, isName, i
 use Rattle.names.proofs.Tokens.{numeral-index, member-reads, indexes-read, Later, later}
 use Rattle.names.proofs.Spelling.{LaterToken, Names, names-read, reads-names, spelling-append, spelling-one}
 
-spelled-more : (h q : Text) (ts : List Token) (t : Token)
+-- what is spelled with one token more
+pub spelled-more : (h q : Text) (ts : List Token) (t : Token)
     → (h ++ (q ++ spelling ts)) ++ t .text ≡ h ++ (q ++ spelling (ts ++ (t ∷ [])))
 spelled-more h q ts t =
     append-assoc h (q ++ spelling ts) (t .text)

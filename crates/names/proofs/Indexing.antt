@@ -30,7 +30,7 @@ unfoldable pub laterParts : (ℕ → Bool) → Text → List Text
 laterParts p [] = []
 laterParts p (b ∷ r) = parts p r
 
-parts-front : (b : ℕ) (q u : Text) → All (Passes (isNot b)) q → Ends (isNot b) u → parts (eqb b) (q ++ u) ≡ q ∷ laterParts (eqb b) u
+pub parts-front : (b : ℕ) (q u : Text) → All (Passes (isNot b)) q → Ends (isNot b) u → parts (eqb b) (q ++ u) ≡ q ∷ laterParts (eqb b) u
 unfolding parts laterParts onFirst
 parts-front b [] [] h e = refl
 parts-front b [] (c ∷ u) h e = rw (eqb-sym b c, not-false (eqb c b) e)

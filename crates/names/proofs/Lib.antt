@@ -19,3 +19,5 @@ pub mod Tokens
 pub mod Walking
 pub mod Placing
 pub mod Listings
+pub mod Pathing
+pub mod Onward

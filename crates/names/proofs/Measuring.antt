@@ -55,6 +55,21 @@ pub indexes-few : (u : Text) (is : List ℕ) → indexesOf u ≡ some is → len
 unfolding indexesOf
 indexes-few u is e = let n = all-count (parts (eqb 44) u) is e in let h = parts-few (eqb 44) u in omega arith
 
+-- a bracket that reads has an index
+parts-some : (f : ℕ → Bool) (t : Text) → 0 < length (parts f t)
+unfolding parts onFirst
+parts-some f [] = omega arith
+parts-some f (b ∷ r) = go (f b) (parts f r)
+  where
+    go : (t : Bool) (ps : List Text) → 0 < length (cond t ([] ∷ ps) (onFirst b ps))
+    go true ps = omega arith
+    go false [] = omega arith
+    go false (p ∷ ps) = omega arith
+
+pub indexes-some : (u : Text) (is : List ℕ) → indexesOf u ≡ some is → 0 < length is
+unfolding indexesOf
+indexes-some u is e = let n = all-count (parts (eqb 44) u) is e in let h = parts-some (eqb 44) u in omega arith
+
 -- a token has fewer indexes than bytes
 pub token-few : (p : Text) (k : Key) → laterToken p ≡ reads k → length (indexesIn k) < length p
 unfolding indexesIn bracket

@@ -127,11 +127,13 @@ read-at : (h t : Text) → programLength (h ++ t) ≡ length h → readName (h +
 unfolding readName
 read-at h t e = rw (e, take-append-seam h t, drop-append-seam h t)
 
+-- the program part of a part, a name and pieces
+pub program-of : (h q : Text) (ps : List Text) → Part h → isName q ≡ true → All (Opens startsToken) ps → programLength (h ++ (q ++ joined ps)) ≡ length h
+program-of h q ps (outside e) n o = rw e (outside-length (q ++ joined ps) (name-outside q ps n o))
+program-of h q ps (program f) n o = f (q ++ joined ps)
+
 -- a part, a name and pieces are read so
 pub read-pieces : (h q : Text) (ps : List Text) → Part h → isName q ≡ true → All (Opens startsToken) ps
     → readName (h ++ (q ++ joined ps)) ≡ allTokens h (q ∷ ps)
-read-pieces h q ps (outside e) n o =
-    read-at h (q ++ joined ps) (rw e (outside-length (q ++ joined ps) (name-outside q ps n o)))
-    ∙ ap (allTokens h) (pieces-of startsToken q ps (name-plain q n) o)
-read-pieces h q ps (program f) n o =
-    read-at h (q ++ joined ps) (f (q ++ joined ps)) ∙ ap (allTokens h) (pieces-of startsToken q ps (name-plain q n) o)
+read-pieces h q ps p n o =
+    read-at h (q ++ joined ps) (program-of h q ps p n o) ∙ ap (allTokens h) (pieces-of startsToken q ps (name-plain q n) o)

@@ -11,7 +11,7 @@ use Rattle.fields.specs.Text.{Text}
 use Rattle.fields.specs.Format.{All}
 use Rattle.fields.proofs.Lists.{all-take}
 use Rattle.names.specs.Pieces.{joined}
-use Rattle.names.specs.Name.{Key, member, Token, Reading, tokens, stops, Piece, reads, stopsAt, nameLength, isName, laterToken, before, following, laterTokens, allTokens, programLength, startsToken, readName, textOf, spelling}
+use Rattle.names.specs.Name.{Key, member, Token, Reading, tokens, stops, Piece, reads, stopsAt, nameLength, isName, laterToken, before, following, laterTokens, allTokens, programLength, startsToken, readName, listed, tokensOf, textOf, spelling}
 use Rattle.names.proofs.Cutting.{Opens, Cut, pieces-cut}
 use Rattle.names.proofs.Tokens.{name-some, Later, later, later-long}
 use Rattle.names.proofs.Programs.{Part, part-of, read-pieces}
@@ -27,11 +27,19 @@ stops-tokens i ts e = subst Listed (sym e) tt
 tokens-same : (ts us : List Token) → tokens ts ≡ tokens us → ts ≡ us
 tokens-same ts us e = cc
 
+pub tokens-are : (s : Text) (ts : List Token) → readName s ≡ tokens ts → tokensOf s ≡ ts
+unfolding tokensOf listed
+tokens-are s ts e = rw e
+
+pub no-tokens : (s : Text) (i : ℕ) → readName s ≡ stops i → tokensOf s ≡ []
+unfolding tokensOf listed
+no-tokens s i e = rw e
+
 -- ---- the tokens behind the first one
 abbrev pub LaterToken : Token → Type 0
 LaterToken t = Later (t .text) (t .key)
 
-later-texts : (ts : List Token) → All LaterToken ts → All (Opens startsToken) (map textOf ts)
+pub later-texts : (ts : List Token) → All LaterToken ts → All (Opens startsToken) (map textOf ts)
 unfolding textOf
 later-texts [] h = tt
 later-texts (t ∷ ts) h = (h .0 .opens, later-texts ts (h .1))

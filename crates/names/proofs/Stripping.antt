@@ -1,16 +1,19 @@
 -- A path without its brackets and braces: lower case and leaving out may be done in either order.
--- A text with no bracket and no brace to open stays as it is.
+-- A text with no bracket and no brace to open stays as it is, and a bracket is left out as a whole.
 -- Assumes nothing.
-use mathlib.Core.Path.{_≡_, refl, sym, ap}
+use mathlib.Core.Path.{_≡_, refl, sym, ap, _∙_}
 use mathlib.Core.Bool.{false, _&&_}
-use mathlib.Core.List.{[], _∷_}
+use mathlib.Core.List.{[], _∷_, _++_, append-assoc, append-nil}
 use Prim.Native.Nat.{ℕ, _≤_}
 use native.Mathlib.Omega.{arith}
 use lib.Dec.{eqb}
+use borrow.Author.Tests.{not-true}
 use Rattle.fields.specs.Text.{Text, lower, lowered}
 use Rattle.fields.specs.Format.{All}
 use Rattle.fields.proofs.Lists.{cond-elim, at-cond}
 use Rattle.fields.proofs.Texts.{eqb-lower}
+use Rattle.fields.proofs.Scans.{Passes}
+use Rattle.names.specs.Name.{isInside, bracket}
 use Rattle.names.specs.Strip.{skipping, isKept, stripFrom, stripped}
 use Rattle.names.proofs.Casing.{bracket-lower}
 
@@ -50,7 +53,23 @@ stripped-lowered s = strip-lowered 0 s (omega arith)
 abbrev pub OpensNone : ℕ → Type 0
 OpensNone b = (eqb b 91 ≡ false) × (eqb b 123 ≡ false)
 
-pub stripped-plain : (s : Text) → All OpensNone s → stripped s ≡ s
+-- such a text stays before whatever follows it
+pub stripped-over : (s t : Text) → All OpensNone s → stripped (s ++ t) ≡ s ++ stripped t
 unfolding stripped stripFrom isKept skipping
-stripped-plain [] h = refl
-stripped-plain (b ∷ r) h = rw (h .0 .0, h .0 .1) (ap (λ t. b ∷ t) (stripped-plain r (h .1)))
+stripped-over [] t h = refl
+stripped-over (b ∷ r) t h = rw (h .0 .0, h .0 .1) (ap (λ x. b ∷ x) (stripped-over r t (h .1)))
+
+pub stripped-plain : (s : Text) → All OpensNone s → stripped s ≡ s
+unfolding stripped stripFrom
+stripped-plain s h = ap stripped (sym (append-nil s)) ∙ stripped-over s [] h ∙ append-nil s
+
+-- ---- a bracket
+closed-over : (u t : Text) → All (Passes isInside) u → stripFrom 93 (u ++ (93 ∷ t)) ≡ stripFrom 0 t
+unfolding stripFrom isKept skipping isInside
+closed-over [] t h = refl
+closed-over (b ∷ u) t h = rw (not-true (eqb b 93) (h .0)) (closed-over u t (h .1))
+
+-- it is left out, up to the byte that closes it
+pub stripped-bracket : (u t : Text) → All (Passes isInside) u → stripped (bracket u ++ t) ≡ stripped t
+unfolding stripped stripFrom isKept skipping bracket
+stripped-bracket u t h = ap (stripFrom 93) (append-assoc u (93 ∷ []) t) ∙ closed-over u t h

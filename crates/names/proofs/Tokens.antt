@@ -110,6 +110,10 @@ index-inside : (b : ℕ) → isIndexByte b ≡ true → isInside b ≡ true
 unfolding isInside isIndexByte isDigit between
 index-inside b e = rw (passes-other isIndexByte b 93 e refl)
 
+-- no byte of the indexes closes their bracket
+pub indexes-inside : (u : Text) (is : List ℕ) → indexesOf u ≡ some is → All (Passes isInside) u
+indexes-inside u is e = all-weaken (Passes isIndexByte) (Passes isInside) u index-inside (index-bytes u is e)
+
 no-comma : (b : ℕ) → isDigit b ≡ true → eqb 44 b ≡ false
 unfolding isDigit between
 no-comma b e = eqb-sym 44 b ∙ passes-other isDigit b 44 e refl
@@ -134,7 +138,7 @@ bracketed-reads r u is n l t e =
 pub indexes-read : (u : Text) (is : List ℕ) → indexesOf u ≡ some is → laterToken (bracket u) ≡ reads (indexKey is)
 unfolding laterToken bracket insideLength isInside
 indexes-read u is e =
-    let n = scan-over isInside u (93 ∷ []) 0 (all-weaken (Passes isIndexByte) (Passes isInside) u index-inside (index-bytes u is e)) refl in
+    let n = scan-over isInside u (93 ∷ []) 0 (indexes-inside u is e) refl in
     bracketed-reads (u ++ (93 ∷ [])) u is (omega arith) (length-append u (93 ∷ [])) (take-append-seam u (93 ∷ [])) e
 
 -- a piece that reads: a dot and a name, or indexes in brackets

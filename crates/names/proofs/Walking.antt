@@ -2,7 +2,7 @@
 -- Assumes nothing.
 use mathlib.Core.Path.{_≡_, refl, sym, ap, subst, _∙_}
 use mathlib.Core.Bool.{Bool, true, false, cond, _||_, true≢false}
-use mathlib.Core.List.{List, [], _∷_, _++_}
+use mathlib.Core.List.{List, [], _∷_, _++_, append-nil}
 use Prim.Native.Nat.{ℕ, _+_, _≤_, _<_}
 use native.Mathlib.Omega.{arith}
 use lib.ListN.{length, take, drop, getD, length-take}
@@ -12,13 +12,15 @@ use Rattle.fields.specs.Text.{Text}
 use Rattle.fields.specs.Places.{part}
 use Rattle.fields.proofs.Lists.{drop-next, drop-past, drop-there, cond-elim, take-there, part-length, part-first, take-part, part-drop, all-weaken}
 use Rattle.fields.proofs.Scans.{Passes, Misses, Ends, scan-at}
-use Rattle.names.specs.Pieces.{onFirst, pieces}
-use Rattle.names.specs.Name.{Key, member, Piece, reads, stopsAt, tokens, stops, isName, nameLength, dotted, bracketed, laterToken, before, following, laterTokens, allTokens, programLength, startsToken, readName}
+use Rattle.names.specs.Pieces.{joined, onFirst, pieces}
+use Rattle.names.specs.Name.{Key, member, Piece, reads, stopsAt, tokens, stops, isName, nameLength, dotted, bracketed, laterToken, before, following, laterTokens, allTokens, programLength, startsToken, readName, spelling}
 use Rattle.names.specs.Steps.{indexesIn, pieceTold, isPieceByte, pieceEnd, stepAt, baseTold, baseAt, firstStep, laterFrom, readFrom}
 use Rattle.names.specs.declared.Step.{Step}
 use Rattle.names.specs.declared.Step.the-variants.{Token as AToken, End, Stops}
 use Rattle.names.proofs.Cutting.{pieces-front}
 use Rattle.names.proofs.Tokens.{name-some}
+use Rattle.names.proofs.Programs.{Part, part-of}
+use Rattle.names.proofs.Spelling.{names-read}
 
 -- ---- the cut at a place of a name
 pub record CutAt (s : Text) (at : ℕ) : Type 0 where
@@ -148,6 +150,7 @@ step-tells s at =
 -- ---- the first token
 pub record FirstRead (s : Text) (e : ℕ) : Type 0 where
   pub rest : readName s ≡ before (record { text = take e s; key = member (take e s) }) (readFrom s e)
+  pub alone : readName (take e s) ≡ tokens (record { text = take e s; key = member (take e s) } ∷ [])
   pub more : 0 < e
   pub ends : e ≤ length s
 
@@ -155,6 +158,22 @@ abbrev pub FirstTells : Text → Step → Type 0
 FirstTells s (AToken e n) = FirstRead s e × (n ≡ 0)
 FirstTells s End = ⊥
 FirstTells s (Stops i) = readName s ≡ stops i
+
+-- what a program part and a name spell is one token
+base-alone : (s h q : Text) → Part h → isName q ≡ true → h ++ q ≡ s → readName s ≡ tokens (record { text = s; key = member s } ∷ [])
+unfolding spelling joined
+base-alone s h q p n e =
+    names-read s (record { text = s; key = member s } ∷ [])
+    (record {
+      part = h;
+      name = q;
+      later = [];
+      is-part = p;
+      is-name = n;
+      are-later = tt;
+      spelled = sym e ∙ ap (λ x. h ++ x) (sym (append-nil q));
+      listed = ap (λ x. record { text = x; key = member x } ∷ []) (sym e);
+    })
 
 module _ (s : Text) where
   base-tells : (h : ℕ) → h ≡ length (take (programLength s) s) → (c : CutAt s h) → (t : Bool) → isName (part h (pieceEnd s h) s) ≡ t
@@ -168,6 +187,9 @@ module _ (s : Text) where
       let m : take (programLength s) s ++ part h (pieceEnd s h) s ≡ take (pieceEnd s h) s = ap (λ x. x ++ part h (pieceEnd s h) s) (sym z) ∙ take-part s h (pieceEnd s h) w in (
         record {
           rest = rw (f, n, k, m, c .behind);
+          alone =
+              base-alone (take (pieceEnd s h) s) (take (programLength s) s) (part h (pieceEnd s h) s)
+              (part-of s (let l = name-some (part h (pieceEnd s h) s) n in let j = length-take (programLength s) s in let b = c .ends in omega arith)) n m;
           more = (let l = name-some (part h (pieceEnd s h) s) n in omega arith);
           ends = c .ends;
         },

@@ -4,3 +4,4 @@ pub mod Finds
 pub mod Passes
 pub mod Standing
 pub mod Accepting
+pub mod Inside
