@@ -33,7 +33,7 @@ use Rattle.catalog.specs.Alike.{memberPlaces}
 use Rattle.nodes.specs.Placed.{tagPlace}
 use Rattle.nodes.proofs.Inside.{Below, node-inside}
 use Rattle.lookup.specs.Info.{prefixLength}
-use Rattle.lookup.specs.Placed.{typePlace, memberPlaceOf, memberPlace, membersPlace, pathPlace, infoPlace}
+use Rattle.lookup.specs.Placed.{typePlace, memberPlaceOf, memberPlace, membersPlace, pathPlace, infoPlace, memberPlaceIn, typePlaceIn}
 
 -- ---- a name as a path, whatever tag has the whole name
 unfoldable pub asPath : List ℕ → Text → Option ℕ
@@ -130,5 +130,5 @@ module _ (s : List ℕ) (a : Text) (h : 0 < length a) where
   from-inside (some p) f k = k p
 
   pub member-inside : (p : ℕ) → Below (length s) (memberPlace s p a)
-  unfolding memberPlace memberPlaceOf
+  unfolding memberPlace memberPlaceIn memberPlaceOf andThen typePlaceIn typePlace
   member-inside p = from-inside (typePlace s (valueAt node s p .typeName)) (memberPlaceOf s a) (λ q. node-inside s a h (memberPlaces s q))

@@ -1,5 +1,6 @@
 pub mod Lists
 pub mod Tags
+pub mod Rows
 pub mod Candidates
 pub mod Merging
 pub mod Plan
