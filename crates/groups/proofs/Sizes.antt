@@ -31,7 +31,7 @@ use Rattle.packing.specs.Packing.{standard, groupsFile}
 use Rattle.packing.specs.Tables.{sizesOf, largestEntry, mostEntries, entriesVerdict, tableVerdict, countsVerdict, tablesVerdict}
 use Rattle.packing.proofs.Checking.{Small, told-fine}
 use Rattle.packing.proofs.Filing.{refused}
-use Rattle.queries.proofs.Counts.{size-is}
+use Rattle.sizes.proofs.Counts.{size-is}
 use Rattle.groups.specs.Groups.{readSizes, groupsVerdict, planGroups}
 use Rattle.groups.specs.Told.{requestIn, replyIn, columnOf, Sized}
 

@@ -29,11 +29,11 @@ use Rattle.names.proofs.Spelling.{LaterToken, firstToken, reads-names}
 use Rattle.names.proofs.Growing.{spelled-more}
 use Rattle.names.proofs.Pathing.{namesIn, namesOf, names-append, index-names, path-parts, path-program}
 use Rattle.catalog.specs.Catalog.{node}
-use Rattle.catalog.specs.Alike.{memberPlaces}
+use Rattle.catalog.specs.Alike.{typesStart, memberPlaces}
 use Rattle.nodes.specs.Placed.{tagPlace}
 use Rattle.nodes.proofs.Inside.{Below, node-inside}
 use Rattle.lookup.specs.Info.{prefixLength}
-use Rattle.lookup.specs.Placed.{typePlace, memberPlaceOf, memberPlace, membersPlace, pathPlace, infoPlace, memberPlaceIn, typePlaceIn}
+use Rattle.lookup.specs.Placed.{typePlaceIn, memberPlaceOf, memberPlaceIn, memberPlace, membersPlace, pathPlace, infoPlace}
 
 -- ---- a name as a path, whatever tag has the whole name
 unfoldable pub asPath : List ℕ → Text → Option ℕ
@@ -130,5 +130,5 @@ module _ (s : List ℕ) (a : Text) (h : 0 < length a) where
   from-inside (some p) f k = k p
 
   pub member-inside : (p : ℕ) → Below (length s) (memberPlace s p a)
-  unfolding memberPlace memberPlaceIn memberPlaceOf andThen typePlaceIn typePlace
-  member-inside p = from-inside (typePlace s (valueAt node s p .typeName)) (memberPlaceOf s a) (λ q. node-inside s a h (memberPlaces s q))
+  unfolding memberPlace memberPlaceIn memberPlaceOf
+  member-inside p = from-inside (typePlaceIn s (typesStart s) (valueAt node s p .typeName)) (memberPlaceOf s a) (λ q. node-inside s a h (memberPlaces s q))

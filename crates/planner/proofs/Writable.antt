@@ -26,7 +26,7 @@ use Rattle.planner.proofs.Bytes.{Fits, ReadFits, read-fits, reads-bytes
 
 -- ---- the list
 -- the tags of a list inside its limits
-listed-within : (w : TagList) → tagList .within w → (length (w .tags) ≤ 256) × All (tag .within) (w .tags)
+pub listed-within : (w : TagList) → tagList .within w → (length (w .tags) ≤ 256) × All (tag .within) (w .tags)
 unfolding tagList mapped _then_ counted leading number numeric many
 listed-within w h = (h .1 .1 .1 .1 .0, h .1 .1 .1 .1 .1 .1)
 

@@ -47,7 +47,7 @@ use Rattle.queries.specs.declared.WholeSize.the-variants.{Is, Unknown, R
 use Rattle.queries.specs.Queries.{wholeOf, measuredOf, lengthVerdict, nameVerdict, queryVerdict, found, answerOf, shownAs, lookedIn, blankNode, shownAt, lookedAt}
 use Rattle.queries.specs.declared.Looked.{Looked}
 use Rattle.queries.specs.declared.Measured.the-variants.{Bytes, Refused as SizeRefused}
-use Rattle.queries.proofs.Counts.{size-is}
+use Rattle.sizes.proofs.Counts.{size-is}
 use Rattle.queries.specs.declared.Outcome.the-variants.{Found, NotThere, Refused as Refuses}
 
 -- ---- a name given by itself

@@ -1,6 +1,7 @@
 pub mod Bench
 pub mod Bounds
 pub mod Costs
+pub mod Counts
 pub mod Named
 pub mod Replies
 pub mod Requests
