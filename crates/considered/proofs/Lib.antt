@@ -1,0 +1,14 @@
+pub mod Telling
+pub mod Resolving
+pub mod Named
+pub mod Noded
+pub mod Fronts
+pub mod Fitting
+pub mod Elements
+pub mod Tabling
+pub mod Climbing
+pub mod Alikes
+pub mod Viewing
+pub mod Listing
+pub mod Considering
+pub mod Deciding

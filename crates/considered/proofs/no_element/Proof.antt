@@ -1,0 +1,14 @@
+use Rattle.considered.specs.Answers.{elementTold}
+use mathlib.Core.Path.{refl}
+use Rattle.considered.proofs.no_element.Statement.{statement}
+use Rattle.considered.proofs.no_element.Tie as tie
+use Rattle.considered.proofs.no_element.Reads as reads
+use Rattle.considered.proofs.no_element.Lts as lts
+
+-- src/lib.rt:267:1
+returns : tie.Need-returns
+unfolding elementTold
+returns c = refl
+
+pub no-element-spec : {M : Type 1} → statement M
+no-element-spec = tie.close (tie.spec returns)

@@ -1,0 +1,4 @@
+pub mod Levels
+pub mod Found
+pub mod Considered
+pub mod Answers
