@@ -4,7 +4,7 @@ use Prim.Native.Nat.{ℕ, zero, suc, _+_, _-_, _≤_, _<_}
 use native.Mathlib.Omega.{arith}
 use mathlib.Core.Path.{_≡_, refl, sym, ap, ap₂, subst, _∙_}
 use mathlib.Core.Bool.{Bool, true, false, cond}
-use mathlib.Core.List.{List, [], _∷_, _++_, map, append-assoc, append-nil, map-append}
+use mathlib.Core.List.{List, [], _++_, map, append-assoc, append-nil, map-append}
 use mathlib.Core.Option.{Option, none, some}
 use lib.ListN.{length, take, drop, getD}
 use Rattle.fields.specs.Options.{andThen}
@@ -15,7 +15,7 @@ use Rattle.lookup.specs.Info.{infoOf}
 use Rattle.lookup.specs.Told.{bytesTold}
 use Rattle.lookup.specs.declared.Bytes.{Bytes}
 use Rattle.lookup.specs.declared.Bytes.the-variants.{Known, Unknown}
-use Rattle.lists.specs.Lists.{TagList, listOf}
+use Rattle.lists.specs.Lists.{TagList}
 use Rattle.planner.specs.Lists.{asList}
 use Rattle.planner.specs.Tags.{Above, isBarred, climbs, aboveOf, wholeAt, structAt, aboveFrom}
 use Rattle.planner.specs.Rows.{Row, rowOf}

@@ -1,15 +1,15 @@
 -- The loop over all tags: each column holds what the tags so far give, and the others are left.
 -- Assumes nothing.
-use Prim.Native.Nat.{ℕ, zero, suc, _+_, _-_, _*_, _≤_, _<_}
+use Prim.Native.Nat.{ℕ, _+_, _-_, _*_, _≤_, _<_}
 use native.Mathlib.Omega.{arith}
-use mathlib.Core.Path.{_≡_, refl, sym, ap, ap₂, subst, _∙_}
-use mathlib.Core.Bool.{Bool, true, false, not}
+use mathlib.Core.Path.{_≡_, refl, sym, ap, subst, _∙_}
+use mathlib.Core.Bool.{Bool, not}
 use mathlib.Core.List.{List, [], _∷_, _++_, map, map-append}
 use mathlib.Core.Option.{Option, none, some}
 use lib.Dec.{eqb}
-use lib.ListN.{length, take, drop, getD, set, length-map, length-set}
+use lib.ListN.{length, take, getD, set, length-map, length-set}
 use Rattle.fields.specs.Text.{Text, same, alike}
-use Rattle.fields.specs.Format.{All, fine}
+use Rattle.fields.specs.Format.{All}
 use Rattle.fields.specs.Writing.{patch, answered}
 use Rattle.fields.proofs.Filling.{Filling, filling-start, filling-room, filling-set, filling-next, filling-end}
 use Rattle.catalog.specs.Catalog.{Catalog, catalogOf}
@@ -22,7 +22,7 @@ use Rattle.planner.specs.Tags.{Element, Tag, isFirstSpelling, tagBehind, tagsOf
 use Rattle.planner.specs.Serving.{once}
 use Rattle.planner.specs.Rows.{Row, rowOf, rowsFrom}
 use Rattle.considered.specs.Considered.{widthOf, indexOf, arrayOf, requestOf, replyOf}
-use Rattle.considered.specs.Answers.{Limited, firstAlike, Columns, TagColumns, RowsPut, elementTold, aboveIn, elementIn, ViewTold}
+use Rattle.considered.specs.Answers.{Limited, firstAlike, Columns, TagColumns, elementTold, aboveIn, elementIn, ViewTold}
 use Rattle.considered.specs.declared.View.{View}
 use Rattle.considered.proofs.Tabling.{put-columns}
 use Rattle.considered.proofs.Alikes.{first-is, spelling-is}

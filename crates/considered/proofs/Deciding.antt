@@ -1,25 +1,25 @@
 -- Whether the tags of a list are looked at, and what the columns hold where they are and where they are not.
 -- Assumes nothing.
-use Prim.Native.Nat.{ℕ, _+_, _≤_, _<_}
+use Prim.Native.Nat.{ℕ, _≤_}
 use native.Mathlib.Omega.{arith}
-use mathlib.Core.Path.{_≡_, refl, sym, ap, ap₂, subst, _∙_}
+use mathlib.Core.Path.{_≡_, refl, sym, ap, _∙_}
 use mathlib.Core.Bool.{Bool, true, false, cond, _&&_, false≢true}
-use mathlib.Core.List.{List, [], _∷_, _++_, map}
+use mathlib.Core.List.{List, [], map}
 use lib.ListN.{length, drop, getD, List·getD-append}
 use Rattle.fields.specs.Format.{Verdict, fine, bad}
 use Rattle.fields.specs.Writing.{answered}
 use Rattle.fields.proofs.Lists.{and-right}
-use Rattle.catalog.specs.Catalog.{Catalog, catalogOf}
+use Rattle.catalog.specs.Catalog.{catalogOf}
 use Rattle.types.specs.Whole.{isMarkable, wholeOf, WholeTold}
 use Rattle.structs.proofs.Marked.{marked-is}
-use Rattle.lists.specs.Lists.{TagList, listOf, listVerdict}
+use Rattle.lists.specs.Lists.{listOf, listVerdict}
 use Rattle.lists.specs.Access.{tagPlaces}
 use Rattle.lists.proofs.TagPlaces.{tag-places-length}
 use Rattle.planner.specs.Tags.{Tag, tagsOf}
 use Rattle.planner.specs.Rows.{Row, rowsFrom}
 use Rattle.considered.specs.Considered.{isFine, isViewed, viewed, viewedPlaces, viewCount}
 use Rattle.considered.specs.declared.Considered.{Considered}
-use Rattle.considered.specs.Answers.{Whole, TagsPlaced, MarksTold}
+use Rattle.considered.specs.Answers.{TagsPlaced, MarksTold}
 use Rattle.considered.proofs.Listing.{tags-length}
 
 -- ---- whether they are

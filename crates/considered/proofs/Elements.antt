@@ -1,17 +1,15 @@
 -- The element that a tag is, by its last token and the front before it.
 -- Assumes nothing.
-use Prim.Native.Nat.{ℕ, zero, suc, _+_, _-_, _≤_, _<_}
+use Prim.Native.Nat.{ℕ, suc, _+_, _-_, _≤_, _<_}
 use native.Mathlib.Omega.{arith}
-use mathlib.Core.Path.{_≡_, refl, sym, ap, ap₂, subst, _∙_}
+use mathlib.Core.Path.{_≡_, refl, sym, ap, subst, _∙_}
 use mathlib.Core.Bool.{Bool, true, false, cond}
 use mathlib.Core.List.{List, [], _∷_, _++_, append-nil}
 use mathlib.Core.Option.{Option, none, some}
-use lib.ListN.{length, take, drop, getD, length-drop, length-take, take-append-drop}
+use lib.ListN.{length, take, drop, getD, length-drop, take-append-drop}
 use lib.Seq.{length-take-le, take-all}
 use Rattle.fields.specs.Options.{andThen}
-use Rattle.fields.specs.Text.{Text, lowered}
-use Rattle.fields.specs.Format.{fine}
-use Rattle.fields.specs.Fields.{indexCheck}
+use Rattle.fields.specs.Text.{lowered}
 use Rattle.fields.specs.Places.{part, numberTold}
 use Rattle.fields.specs.declared.Numeral.the-variants.{Value, Missing}
 use Rattle.names.specs.Name.{Key, member, item, several, Token, reads, laterToken, tokensOf, spelling}
@@ -26,7 +24,7 @@ use Rattle.planner.proofs.Small.{Small, small-of, small-behind}
 use Rattle.planner.proofs.Items.{Item, item-of, item-small}
 use Rattle.considered.specs.Answers.{LaterText, indexIn, indexRead, widthIn, Levelled, elementTold, Limited}
 use Rattle.considered.specs.declared.Element.{Element as Told}
-use Rattle.considered.proofs.Fronts.{noToken, rest-is, later-at, level-at, last-level, between-read, between-is, between-later, between-order}
+use Rattle.considered.proofs.Fronts.{noToken, rest-is, later-at, level-at, last-level, between-read, between-is}
 
 -- ---- the element of a front and a key
 by-key : (c : Catalog) (w : TagList) (xs : List Token) (u : Token) (us : List Token) → 1 ≤ length xs → elementBy c w xs (u ∷ us) ≡ elementAt c w xs (u .key)

@@ -1,12 +1,12 @@
 -- Sizes that fit their columns: a type has at most 65,535 bytes, and an element of a run at most 8.
 -- Assumes nothing.
-use Prim.Native.Nat.{ℕ, zero, suc, _+_, _-_, _≤_, _<_}
+use Prim.Native.Nat.{ℕ, zero, suc, _-_, _<_}
 use native.Mathlib.Omega.{arith}
-use mathlib.Core.Path.{_≡_, refl, sym, ap, subst, _∙_}
+use mathlib.Core.Path.{_≡_, refl, sym, subst}
 use mathlib.Core.Bool.{Bool, true, false, cond}
-use mathlib.Core.List.{List, [], _∷_}
+use mathlib.Core.List.{List}
 use mathlib.Core.Option.{Option, none, some}
-use lib.ListN.{length, take, drop}
+use lib.ListN.{take, drop}
 use Rattle.fields.specs.Options.{andThen}
 use Rattle.fields.specs.Text.{Text, lowered, same}
 use Rattle.fields.specs.Format.{All, many}
@@ -25,8 +25,7 @@ use Rattle.nodes.proofs.Standing.{types-are}
 use Rattle.lookup.specs.Info.{infoOf, wholeSize, structSize}
 use Rattle.lookup.specs.Atomic.{oneByte, twoBytes, fourBytes, eightBytes, atomicSize}
 use Rattle.lookup.specs.Told.{bytesTold}
-use Rattle.lookup.specs.declared.Bytes.{Bytes}
-use Rattle.lookup.specs.declared.Bytes.the-variants.{Known, Unknown}
+use Rattle.lookup.specs.declared.Bytes.the-variants.{Known}
 use Rattle.sizes.specs.Sizes.{runs, runSize, elementSize}
 use Rattle.structs.proofs.Marked.{type-size-at}
 use Rattle.lists.specs.Lists.{TagList}

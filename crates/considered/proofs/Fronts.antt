@@ -5,17 +5,16 @@ use Prim.Native.Nat.{ℕ, zero, suc, _+_, _-_, _≤_, _<_}
 use native.Mathlib.Omega.{arith}
 use native.Mathlib.Numerals.{add-one}
 use mathlib.Core.Path.{_≡_, refl, sym, ap, ap₂, subst, _∙_}
-use mathlib.Core.Bool.{Bool, true, false}
+use mathlib.Core.Bool.{Bool, true}
 use mathlib.Core.List.{List, [], _∷_, _++_, map, append-assoc}
-use mathlib.Core.Option.{Option, none, some}
-use lib.ListN.{length, take, drop, getD, length-append, length-take}
+use lib.ListN.{length, take, drop, getD, length-append}
 use lib.Seq.{take-append-seam, drop-append-seam, take-suc, drop-cons, take-all, getD-take, length-take-le}
 use Rattle.fields.specs.Text.{Text}
 use Rattle.fields.specs.Format.{All}
 use Rattle.fields.specs.Places.{part}
 use Rattle.names.specs.Name.{Key, member, item, several, Token, reads, tokensOf, laterToken, spelling}
 use Rattle.names.proofs.Spelling.{LaterToken, spelling-append, spelling-one, tokens-are, fronts, first-token, later-tokens}
-use Rattle.catalog.specs.Catalog.{Node, Catalog, catalogOf}
+use Rattle.catalog.specs.Catalog.{Catalog, catalogOf}
 use Rattle.nodes.specs.Reading.{foundIn}
 use Rattle.lookup.specs.Info.{infoOf}
 use Rattle.lookup.specs.Placed.{infoPlace}

@@ -3,8 +3,8 @@
 use Prim.Native.Nat.{ℕ, zero, suc, _+_, _-_, _*_, _≤_, _<_}
 use native.Mathlib.Omega.{arith}
 use native.Mathlib.Numerals.{add-one}
-use mathlib.Core.Path.{_≡_, refl, sym, ap, ap₂, subst, _∙_}
-use mathlib.Core.Bool.{Bool, true, false, cond, not, _&&_}
+use mathlib.Core.Path.{_≡_, refl, sym, ap, subst, _∙_}
+use mathlib.Core.Bool.{Bool, cond}
 use mathlib.Core.List.{List, [], _∷_, _++_, map}
 use mathlib.Core.Option.{Option, none, some}
 use lib.ListN.{length, take, drop, getD, length-append, length-map, drop-of-length-le}
@@ -15,12 +15,12 @@ use Rattle.fields.specs.Fields.{indexedText, indexCheck}
 use Rattle.fields.proofs.Lists.{Bytes, cond-elim, all-weaken}
 use Rattle.names.specs.Name.{Token, tokensOf}
 use Rattle.names.proofs.Spelling.{few-tokens}
-use Rattle.catalog.specs.Catalog.{Catalog, catalogOf}
+use Rattle.catalog.specs.Catalog.{Catalog}
 use Rattle.lists.specs.Lists.{TagList, tag, listOf, listVerdict}
 use Rattle.lists.proofs.Round.{list-accepted}
 use Rattle.planner.specs.Lists.{asList}
 use Rattle.planner.specs.Tags.{Above, Tag, climbs, structAt, aboveFrom, isFirstSpelling, counts, tagBehind, tagsBehind, tagsOf}
-use Rattle.planner.specs.Rows.{Row, rowOf, rowsFrom}
+use Rattle.planner.specs.Rows.{rowOf, rowsFrom}
 use Rattle.planner.proofs.Each.{each-getD}
 use Rattle.planner.proofs.Writable.{listed-within}
 use Rattle.considered.specs.Answers.{Limited, isCounted, aboveIn, elementIn}

@@ -1,16 +1,15 @@
 -- Names that have tokens: they spell it again, it ends in a closing bracket just where its last token is no name, and a token behind the
 -- first one is one index just where its brackets hold one number.
 -- Assumes nothing.
-use Prim.Native.Nat.{ℕ, suc, _+_, _-_, _≤_, _<_}
+use Prim.Native.Nat.{ℕ, suc, _+_, _-_, _≤_}
 use native.Mathlib.Omega.{arith}
-use mathlib.Core.Path.{_≡_, refl, sym, ap, ap₂, subst, _∙_}
-use mathlib.Core.Bool.{Bool, true, false, cond, not}
+use mathlib.Core.Path.{_≡_, refl, sym, ap, ap₂, _∙_}
+use mathlib.Core.Bool.{Bool, true, false, not}
 use mathlib.Core.List.{List, [], _∷_, _++_, append-assoc, append-nil}
 use mathlib.Core.Option.{Option, none, some}
 use lib.Dec.{eqb}
 use lib.ListN.{length, take, drop, getD, length-append}
 use lib.Seq.{take-append-seam}
-use borrow.Author.Tests.{eqb-true}
 use Rattle.fields.specs.Text.{Text, between}
 use Rattle.fields.specs.Decimal.{isDigit, numeralOf}
 use Rattle.fields.specs.Format.{All}
@@ -18,7 +17,7 @@ use Rattle.fields.specs.Places.{part, numberTold}
 use Rattle.fields.proofs.Lists.{all-at}
 use Rattle.fields.proofs.Scans.{Passes, passes-other}
 use Rattle.names.specs.Pieces.{joined}
-use Rattle.names.specs.Name.{Key, member, item, several, Token, Reading, tokens, stops, Piece, reads, stopsAt, readName, listed, tokensOf, isLetter, isNameByte, isName, indexesOf, indexKey, laterToken, bracket, textOf, spelling}
+use Rattle.names.specs.Name.{Key, member, Token, Reading, tokens, stops, reads, readName, listed, tokensOf, isLetter, isNameByte, isName, indexesOf, indexKey, laterToken, bracket, textOf, spelling}
 use Rattle.names.proofs.Tokens.{name-some, name-bytes, Form, dot, indexes, form-of, later-long, numeral-index}
 use Rattle.names.proofs.Spelling.{LaterToken, reads-names, spells, few-tokens}
 use Rattle.names.proofs.Ranges.{last, last-behind}

@@ -1,38 +1,37 @@
 -- The node that a name leads to, told as a number: what stands there is what the catalog has by that name.
 -- Assumes nothing.
-use Prim.Native.Nat.{ℕ, zero, suc, _+_, _-_, _≤_, _<_}
+use Prim.Native.Nat.{ℕ, zero, suc, _-_, _≤_}
 use native.Mathlib.Omega.{arith}
 use native.Mathlib.Numerals.{add-one}
 use mathlib.Core.Path.{_≡_, refl, sym, ap, _∙_}
 use mathlib.Core.Bool.{Bool, true, false, cond, not, _&&_}
 use mathlib.Core.List.{List, [], _∷_}
 use mathlib.Core.Option.{Option, none, some}
-use lib.Dec.{eqb, ltb}
+use lib.Dec.{eqb}
 use lib.ListN.{length}
 use borrow.Author.Tests.{le-ltb}
 use Rattle.fields.specs.Options.{andThen}
 use Rattle.fields.specs.Places.{valueAt, told, numberTold}
 use Rattle.fields.specs.declared.Numeral.the-variants.{Missing}
-use Rattle.fields.specs.Text.{Text, lowered, same}
+use Rattle.fields.specs.Text.{lowered, same}
 use Rattle.fields.specs.Format.{Verdict, fine, bad}
 use Rattle.fields.specs.declared.Refusal.{Refusal}
 use Rattle.fields.specs.declared.Checked.the-variants.{Good, Refused}
-use Rattle.names.specs.Name.{Token, tokens, tokensOf, spelling}
-use Rattle.names.specs.Range.{Range, rangeOf}
+use Rattle.names.specs.Name.{Token, tokensOf}
 use Rattle.names.specs.Listing.{longestName}
 use Rattle.names.proofs.Ranges.{named-no-range}
-use Rattle.catalog.specs.Catalog.{Node, Catalog, node, catalogOf}
+use Rattle.catalog.specs.Catalog.{Catalog, node, catalogOf}
 use Rattle.catalog.specs.Finding.{any, holds}
 use Rattle.nodes.specs.Placed.{foundTold}
 use Rattle.nodes.specs.Reading.{foundIn, toldAt, nodeRead}
 use Rattle.nodes.specs.declared.Node.{Node as Read}
 use Rattle.nodes.specs.declared.Found.{Found}
 use Rattle.nodes.specs.declared.Found.the-variants.{At, Nowhere}
-use Rattle.lookup.specs.Info.{infoOf, structSize}
+use Rattle.lookup.specs.Info.{infoOf}
 use Rattle.lookup.specs.Placed.{infoPlace}
 use Rattle.lookup.specs.Told.{bytesTold}
 use Rattle.lookup.specs.declared.Bytes.{Bytes}
-use Rattle.lookup.specs.declared.Bytes.the-variants.{Known, Unknown}
+use Rattle.lookup.specs.declared.Bytes.the-variants.{Unknown}
 use Rattle.lookup.proofs.Placed.{info-is}
 use Rattle.sizes.specs.Sizes.{isBits, isEmpty, requestSize, replySize, sizeFrom, readSize, elementSize}
 use Rattle.sizes.specs.Told.{boundedRequest, sizeTold}
@@ -40,12 +39,12 @@ use Rattle.sizes.specs.declared.Size.{Size as Told}
 use Rattle.structs.specs.Structs.{markedIn}
 use Rattle.structs.proofs.Marked.{marked-in}
 use Rattle.catalog.specs.Alike.{typesStart}
-use Rattle.lists.specs.Lists.{listOf, listVerdict}
+use Rattle.lists.specs.Lists.{listOf}
 use Rattle.planner.specs.Tags.{endsInName, isBarred, isUnindexed, aboveOf, wholeAt, structAt}
 use Rattle.planner.specs.Serving.{once}
 use Rattle.considered.specs.Levels.{placeTold}
 use Rattle.considered.specs.Considered.{isFine}
-use Rattle.considered.specs.Answers.{foundBy, Leading, Whole, sizeIn, keyClimbs, widthIn}
+use Rattle.considered.specs.Answers.{foundBy, Leading, Whole, sizeIn, widthIn}
 use Rattle.considered.proofs.Named.{name-read, name-spelled, open-ends}
 use Rattle.names.proofs.Ranges.{last}
 

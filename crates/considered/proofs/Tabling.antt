@@ -3,9 +3,9 @@
 use Prim.Native.Nat.{ℕ, _+_, _≤_, _<_}
 use native.Mathlib.Omega.{arith}
 use mathlib.Core.Path.{_≡_, refl, sym, ap, ap₂, _∙_}
-use mathlib.Core.List.{List, [], _∷_, _++_, map, append-nil, map-append}
+use mathlib.Core.List.{List, [], _++_, map, append-nil, map-append}
 use lib.ListN.{length, take, set, length-append, length-map, take-append-drop}
-use Rattle.fields.specs.Writing.{patch, answered}
+use Rattle.fields.specs.Writing.{patch}
 use Rattle.fields.proofs.Patches.{patch-fits, patch-patch, set-patch, length-patch}
 use Rattle.lookup.specs.declared.Bytes.{Bytes}
 use Rattle.lookup.specs.declared.Bytes.the-variants.{Known, Unknown}

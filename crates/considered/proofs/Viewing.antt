@@ -1,16 +1,14 @@
 -- The look at one tag: whether it counts, and what is told and written of it in each case.
 -- Assumes nothing.
-use Prim.Native.Nat.{ℕ, zero, suc, _+_, _-_, _≤_, _<_}
+use Prim.Native.Nat.{ℕ, _-_, _≤_}
 use native.Mathlib.Omega.{arith}
 use mathlib.Core.Path.{_≡_, refl, sym, ap, subst, _∙_}
-use mathlib.Core.Bool.{Bool, true, false, cond, not, _&&_}
-use mathlib.Core.List.{List, [], _∷_, map}
-use mathlib.Core.Option.{Option, none, some}
+use mathlib.Core.Bool.{Bool, true, false, cond, not}
+use mathlib.Core.List.{List, [], map}
+use mathlib.Core.Option.{Option, none}
 use lib.ListN.{length, take, drop}
 use Rattle.fields.specs.Text.{Text}
-use Rattle.fields.specs.Format.{fine}
-use Rattle.fields.specs.Fields.{indexCheck}
-use Rattle.names.specs.Name.{Token, tokensOf}
+use Rattle.names.specs.Name.{tokensOf}
 use Rattle.catalog.specs.Catalog.{Catalog, catalogOf}
 use Rattle.catalog.specs.Finding.{holds}
 use Rattle.lookup.specs.Info.{infoOf}
@@ -20,11 +18,12 @@ use Rattle.sizes.specs.declared.Size.{Size}
 use Rattle.sizes.proofs.Counts.{size-is}
 use Rattle.lists.specs.Lists.{TagList, listOf}
 use Rattle.planner.specs.Tags.{Above, Element, isUnindexed, aboveFrom, elementBy}
-use Rattle.planner.specs.Rows.{Row, rowOf}
+use Rattle.planner.specs.Rows.{rowOf}
 use Rattle.planner.proofs.Small.{small-of, small-more, small-fine}
 use Rattle.considered.specs.Levels.{levelEnds, levelNodes}
-use Rattle.considered.specs.Answers.{Levelled, Limited, Columns, RowsPut, elementTold, isCounted, aboveIn, elementIn, ViewTold}
+use Rattle.considered.specs.Answers.{Levelled, Limited, Columns, RowsPut, elementTold, isCounted, aboveIn, elementIn, plainView, ViewTold}
 use Rattle.considered.specs.declared.Element.{Element as Told}
+use Rattle.considered.specs.declared.View.{View}
 use Rattle.considered.proofs.Tabling.{put-none}
 
 -- ---- whether a tag counts
@@ -66,34 +65,39 @@ none-element c w t known e = rw (← e) (go (isCounted c t known))
     go true = refl
     go false = refl
 
-module _ (catalog list t : List ℕ) (known : Bool) (tag : ℕ) (o l z : List ℕ) (from : ℕ) (k : Columns o l z) (h : from ≤ 16384) (size : Size) (element : Told) where
-  pub view-none : (n : ℕ) → Limited t → n ≡ length (tokensOf t) → n ≡ 0 → size ≡ boundedSize (catalogOf catalog) t → element ≡ elementTold none
-      → ViewTold catalog list t known tag o l z from o l z (record { size = size; element = element; rows = from })
-  view-none n f e y s g =
-      record {
-        size-is = plain-size (catalogOf catalog) t size f s;
-        element-is = g ∙ ap elementTold (none-element (catalogOf catalog) (listOf list) t known (sym y ∙ e));
-        put = subst (λ x. RowsPut (map (rowOf tag) x) o l z from o l z from) (none-above (catalogOf catalog) (listOf list) t known (sym y ∙ e)) (put-none o l z from k h);
-      }
+module _ (catalog list t : List ℕ) (known : Bool) (tag : ℕ) (o l z : List ℕ) (from : ℕ) (size : Size) where
+  -- nothing else is given
+  plain-told : (r : View) → Columns o l z → from ≤ 16384 → r ≡ plainView size from → size ≡ sizeTold (readSize (catalogOf catalog) t)
+      → [] ≡ aboveIn (catalogOf catalog) (listOf list) t known → none ≡ elementIn (catalogOf catalog) (listOf list) t known
+      → ViewTold catalog list t known tag o l z from o l z r
+  unfolding plainView
+  plain-told r k h q s a d =
+      rw q (record {
+        size-is = s;
+        element-is = ap elementTold d;
+        put = subst (λ x. RowsPut (map (rowOf tag) x) o l z from o l z from) a (put-none o l z from k h);
+      })
+
+  pub view-none : (n : ℕ) (r : View) → Columns o l z → from ≤ 16384 → Limited t → n ≡ length (tokensOf t) → n ≡ 0 → size ≡ boundedSize (catalogOf catalog) t → r ≡ plainView size from
+      → ViewTold catalog list t known tag o l z from o l z r
+  view-none n r k h f e y s q =
+      plain-told r k h q (plain-size (catalogOf catalog) t size f s) (none-above (catalogOf catalog) (listOf list) t known (sym y ∙ e))
+      (none-element (catalogOf catalog) (listOf list) t known (sym y ∙ e))
 
   module _ (b : Bool) (e : b ≡ isCounted (catalogOf catalog) t known) (s : size ≡ sizeTold (readSize (catalogOf catalog) t)) where
-    pub view-not : b ≡ false → element ≡ elementTold none → ViewTold catalog list t known tag o l z from o l z (record { size = size; element = element; rows = from })
+    pub view-not : (r : View) → Columns o l z → from ≤ 16384 → b ≡ false → r ≡ plainView size from → ViewTold catalog list t known tag o l z from o l z r
     unfolding aboveIn elementIn
-    view-not y g =
+    view-not r k h y q =
         let a : [] ≡ aboveIn (catalogOf catalog) (listOf list) t known = rw (← e, y) in
         let d : none ≡ elementIn (catalogOf catalog) (listOf list) t known = rw (← e, y) in
-        record {
-          size-is = s;
-          element-is = g ∙ ap elementTold d;
-          put = subst (λ x. RowsPut (map (rowOf tag) x) o l z from o l z from) a (put-none o l z from k h);
-        }
+        plain-told r k h q s a d
 
-    pub view-counted : (n : ℕ) (o′ l′ z′ : List ℕ) (rows : ℕ) → n ≡ length (tokensOf t) → b ≡ true
+    pub view-counted : (n : ℕ) (element : Told) (o′ l′ z′ : List ℕ) (rows : ℕ) → n ≡ length (tokensOf t) → b ≡ true
         → element ≡ elementTold (elementBy (catalogOf catalog) (listOf list) (take (n - 1) (tokensOf t)) (drop (n - 1) (tokensOf t)))
         → RowsPut (map (rowOf tag) (aboveFrom (catalogOf catalog) (listOf list) (tokensOf t) n)) o l z from o′ l′ z′ rows
         → ViewTold catalog list t known tag o l z from o′ l′ z′ (record { size = size; element = element; rows = rows })
     unfolding aboveIn elementIn
-    view-counted n o′ l′ z′ rows m y g p =
+    view-counted n element o′ l′ z′ rows m y g p =
         let a : aboveFrom (catalogOf catalog) (listOf list) (tokensOf t) n ≡ aboveIn (catalogOf catalog) (listOf list) t known = rw (← e, y, ← m) in
         let d : elementBy (catalogOf catalog) (listOf list) (take (n - 1) (tokensOf t)) (drop (n - 1) (tokensOf t)) ≡ elementIn (catalogOf catalog) (listOf list) t known = rw (← e, y, ← m) in
         record {

@@ -19,6 +19,7 @@ use Rattle.lookup.specs.Info.{infoOf, structSize}
 use Rattle.lookup.specs.Placed.{infoPlace}
 use Rattle.sizes.specs.Sizes.{isBits, readSize, elementSize}
 use Rattle.sizes.specs.Told.{sizeTold}
+use Rattle.sizes.specs.declared.Size.{Size}
 use Rattle.structs.specs.Structs.{markedSize}
 use Rattle.lookup.specs.declared.Bytes.{Bytes}
 use Rattle.lookup.specs.declared.Bytes.the-variants.{Known, Unknown}
@@ -143,6 +144,10 @@ aboveIn c w t known = cond (isCounted c t known) (aboveFrom c w (tokensOf t) (le
 unfoldable pub elementIn : Catalog → TagList → Text → Bool → Option Element
 elementIn c w t known =
     cond (isCounted c t known) (elementBy c w (take (length (tokensOf t) - 1) (tokensOf t)) (drop (length (tokensOf t) - 1) (tokensOf t))) none
+
+-- what a tag gives that is no element and has no rows
+unfoldable pub plainView : Size → ℕ → View
+plainView z n = record { size = z; element = elementTold none; rows = n }
 
 -- what a look at the tag `t` at a position tells, and what it writes from the row `from` on
 pub record ViewTold (catalog list t : List ℕ) (known : Bool) (tag : ℕ) (owners lengths sizes : List ℕ) (from : ℕ) (owners′ lengths′ sizes′ : List ℕ) (r : View) : Type 0 where

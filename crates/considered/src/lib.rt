@@ -57,7 +57,7 @@ ghost use Rattle.planner.specs.Serving.{once};
 ghost use Rattle.considered.specs.Levels.{placeTold, levelEnds, levelNodes};
 ghost use Rattle.considered.specs.Found.{placeIn, placeBehind};
 ghost use Rattle.considered.specs.Considered.{isFine, viewed, viewedPlaces, widthOf, indexOf, arrayOf, requestOf, replyOf, viewCount};
-ghost use Rattle.considered.specs.Answers.{foundBy, Leading, Whole, sizeIn, LaterText, indexRead, pieceClimbs, widthIn, Levelled, SizeFits, rowTold, Columns, RowsPut, elementTold, Limited, TagsPlaced, firstAlike, isCounted, ViewTold, TagColumns, MarksTold};
+ghost use Rattle.considered.specs.Answers.{foundBy, Leading, Whole, sizeIn, LaterText, indexRead, pieceClimbs, widthIn, Levelled, SizeFits, rowTold, Columns, RowsPut, elementTold, Limited, TagsPlaced, firstAlike, isCounted, plainView, ViewTold, TagColumns, MarksTold};
 
 // How many tags are listed, and how many rows tell the structs above them.
 pub struct Considered {
@@ -216,7 +216,8 @@ fn struct_at(
     if node == 0 {
         return Bytes::Unknown;
     }
-    if is_barred(list, name) {
+    let barred = is_barred(list, name);
+    if barred {
         return Bytes::Unknown;
     }
     if is_unindexed(catalog, name, node - 1) {
@@ -260,60 +261,6 @@ fn climbs_over(catalog: &[u8], t: &[u8], node: usize) -> bool
         Numeral::Missing => false,
         Numeral::Value(_) => is_apart(catalog, node),
     }
-}
-
-// The bytes of an element of the array that a name leads to, if the array runs and is not barred.
-fn array_width(catalog: &[u8], list: &[u8], name: &[u8], node: usize) -> Bytes
-    requires { ⌜ Leading (now catalog) (now name) node ⌝ }
-    ensures { λ r. ⌜ r ≡ bytesTold (widthIn (catalogOf (now (catalog .entry))) (listOf (now (list .entry))) (now (name .entry))) ⌝ }
-{
-    if is_barred(list, name) {
-        return Bytes::Unknown;
-    }
-    element_size(catalog, found_at(node))
-}
-
-// The sizes of a plain read of a name that leads to a node.
-fn plain_size(catalog: &[u8], name: &[u8], node: usize) -> Size
-    requires { ⌜ Leading (now catalog) (now name) node × (length (now name) ≤ longestName) ⌝ }
-    ensures { λ r. ⌜ r ≡ sizeTold (readSize (catalogOf (now (catalog .entry))) (now (name .entry))) ⌝ }
-{
-    Size {
-        request: request_size(catalog, name),
-        reply: reply_size(catalog, found_at(node)),
-    }
-}
-
-// Whether a tag leads to a node that is no array without an index.
-fn is_read(catalog: &[u8], name: &[u8], node: usize) -> bool
-    requires { ⌜ Leading (now catalog) (now name) node ⌝ }
-    ensures { λ r. ⌜ r ≡ holds (λ n. not (isUnindexed (tokensOf (now (name .entry))) n)) (infoOf (catalogOf (now (catalog .entry))) (now (name .entry))) ⌝ }
-{
-    if node == 0 {
-        return false;
-    }
-    !is_unindexed(catalog, name, node - 1)
-}
-
-// Whether a list is accepted.
-fn is_accepted(list: &[u8]) -> bool
-    ensures { λ r. ⌜ r ≡ isFine (listVerdict (now (list .entry))) ⌝ }
-{
-    let v = check_list(list);
-    match v {
-        Checked::Good(_) => true,
-        Checked::Refused(_) => false,
-    }
-}
-
-// 1 for yes, 0 for no.
-fn flag(b: bool) -> u8
-    ensures { λ r. ⌜ r ≡ once b ⌝ }
-{
-    if b {
-        return 1;
-    }
-    0
 }
 
 // Whether the climb from a tag goes on over its token at a position.
@@ -387,6 +334,17 @@ fn climb(
     m
 }
 
+// The bytes of an element of the array that a name leads to, if the array runs and is not barred.
+fn array_width(catalog: &[u8], list: &[u8], name: &[u8], node: usize) -> Bytes
+    requires { ⌜ Leading (now catalog) (now name) node ⌝ }
+    ensures { λ r. ⌜ r ≡ bytesTold (widthIn (catalogOf (now (catalog .entry))) (listOf (now (list .entry))) (now (name .entry))) ⌝ }
+{
+    if is_barred(list, name) {
+        return Bytes::Unknown;
+    }
+    element_size(catalog, found_at(node))
+}
+
 // No element.
 fn no_element() -> Element
     ensures { λ r. ⌜ r ≡ elementTold none ⌝ }
@@ -432,6 +390,102 @@ fn element_of(
     }
 }
 
+// The sizes of a plain read of a name that leads to a node.
+fn plain_size(catalog: &[u8], name: &[u8], node: usize) -> Size
+    requires { ⌜ Leading (now catalog) (now name) node × (length (now name) ≤ longestName) ⌝ }
+    ensures { λ r. ⌜ r ≡ sizeTold (readSize (catalogOf (now (catalog .entry))) (now (name .entry))) ⌝ }
+{
+    Size {
+        request: request_size(catalog, name),
+        reply: reply_size(catalog, found_at(node)),
+    }
+}
+
+// Whether a tag leads to a node that is no array without an index.
+fn is_read(catalog: &[u8], name: &[u8], node: usize) -> bool
+    requires { ⌜ Leading (now catalog) (now name) node ⌝ }
+    ensures { λ r. ⌜ r ≡ holds (λ n. not (isUnindexed (tokensOf (now (name .entry))) n)) (infoOf (catalogOf (now (catalog .entry))) (now (name .entry))) ⌝ }
+{
+    if node == 0 {
+        return false;
+    }
+    !is_unindexed(catalog, name, node - 1)
+}
+
+// Whether a tag counts that leads to a node; it is no second spelling where it is known.
+fn is_counted(catalog: &[u8], name: &[u8], node: usize, known: bool) -> bool
+    requires { ⌜ Leading (now catalog) (now name) node ⌝ }
+    ensures { λ r. ⌜ r ≡ isCounted (catalogOf (now (catalog .entry))) (now (name .entry)) known ⌝ }
+{
+    if known {
+        return is_read(catalog, name, node);
+    }
+    false
+}
+
+// What a tag gives that is no element and has no rows.
+fn plain_view(size: Size, rows: usize) -> View
+    ensures { λ r. ⌜ r ≡ plainView size rows ⌝ }
+{
+    let element = no_element();
+    View {
+        size,
+        element,
+        rows,
+    }
+}
+
+// Looks at the tag at a position, of which name is the text, and writes the rows of the structs above it from a row on.
+fn view_tag(
+    catalog: &[u8],
+    list: &[u8],
+    types: usize,
+    marks: &[u8; 128],
+    name: &[u8],
+    tag: usize,
+    known: bool,
+    owners: &mut [u8],
+    lengths: &mut [u8],
+    sizes: &mut [u16],
+    from: usize,
+) -> View
+    requires { ⌜ Limited (now name) × Whole (now catalog) (now marks) × (types ≡ typesStart (now catalog)) × (tag < 256) × Columns (now owners) (now lengths) (now sizes) × (from + 64 ≤ 16384) ⌝ }
+    ensures { λ r. ⌜ ViewTold (now (catalog .entry)) (now (list .entry)) (now (name .entry)) known tag (now (owners .entry)) (now (lengths .entry)) (now (sizes .entry)) from (now (owners .exit)) (now (lengths .exit)) (now (sizes .exit)) r ⌝ }
+{
+    let mut ends = [0; 64];
+    let mut nodes = [0; 64];
+    let n = resolve(catalog, types, name, &mut ends, &mut nodes);
+    if n == 0 {
+        return plain_view(read_size(catalog, name), from);
+    }
+    let node = nodes[n - 1];
+    let size = plain_size(catalog, name, node);
+    if is_counted(catalog, name, node, known) {
+        let element = element_of(catalog, list, name, &ends, &nodes, n);
+        let rows = climb(
+            catalog,
+            list,
+            types,
+            marks,
+            name,
+            &ends,
+            &nodes,
+            n,
+            tag,
+            owners,
+            lengths,
+            sizes,
+            from,
+        );
+        return View {
+            size,
+            element,
+            rows,
+        };
+    }
+    plain_view(size, from)
+}
+
 // Where the tag at a position stands.
 fn tag_part(list: &[u8], places: &[usize; 256], i: usize) -> Part
     requires { ⌜ TagsPlaced (now list) (now places) × (i < length (listOf (now list) .tags)) ⌝ }
@@ -475,77 +529,14 @@ fn is_spelled(list: &[u8], places: &[usize; 256], i: usize, j: usize) -> bool
     equal(&list[a..b], &list[c..d])
 }
 
-// Whether a tag counts that leads to a node; it is no second spelling where it is known.
-fn is_counted(catalog: &[u8], name: &[u8], node: usize, known: bool) -> bool
-    requires { ⌜ Leading (now catalog) (now name) node ⌝ }
-    ensures { λ r. ⌜ r ≡ isCounted (catalogOf (now (catalog .entry))) (now (name .entry)) known ⌝ }
+// 1 for yes, 0 for no.
+fn flag(b: bool) -> u8
+    ensures { λ r. ⌜ r ≡ once b ⌝ }
 {
-    if known {
-        return is_read(catalog, name, node);
+    if b {
+        return 1;
     }
-    false
-}
-
-// Looks at the tag at a position, of which name is the text, and writes the rows of the structs above it from a row on.
-fn view_tag(
-    catalog: &[u8],
-    list: &[u8],
-    types: usize,
-    marks: &[u8; 128],
-    name: &[u8],
-    tag: usize,
-    known: bool,
-    owners: &mut [u8],
-    lengths: &mut [u8],
-    sizes: &mut [u16],
-    from: usize,
-) -> View
-    requires { ⌜ Limited (now name) × Whole (now catalog) (now marks) × (types ≡ typesStart (now catalog)) × (tag < 256) × Columns (now owners) (now lengths) (now sizes) × (from + 64 ≤ 16384) ⌝ }
-    ensures { λ r. ⌜ ViewTold (now (catalog .entry)) (now (list .entry)) (now (name .entry)) known tag (now (owners .entry)) (now (lengths .entry)) (now (sizes .entry)) from (now (owners .exit)) (now (lengths .exit)) (now (sizes .exit)) r ⌝ }
-{
-    let mut ends = [0; 64];
-    let mut nodes = [0; 64];
-    let n = resolve(catalog, types, name, &mut ends, &mut nodes);
-    if n == 0 {
-        let size = read_size(catalog, name);
-        let element = no_element();
-        return View {
-            size,
-            element,
-            rows: from,
-        };
-    }
-    let node = nodes[n - 1];
-    let size = plain_size(catalog, name, node);
-    if is_counted(catalog, name, node, known) {
-        let element = element_of(catalog, list, name, &ends, &nodes, n);
-        let rows = climb(
-            catalog,
-            list,
-            types,
-            marks,
-            name,
-            &ends,
-            &nodes,
-            n,
-            tag,
-            owners,
-            lengths,
-            sizes,
-            from,
-        );
-        return View {
-            size,
-            element,
-            rows,
-        };
-    }
-    let element = no_element();
-    View {
-        size,
-        element,
-        rows: from,
-    }
+    0
 }
 
 // Writes what a tag gives at its position.
@@ -645,6 +636,17 @@ fn view_tags(
         i += 1;
     }
     rows
+}
+
+// Whether a list is accepted.
+fn is_accepted(list: &[u8]) -> bool
+    ensures { λ r. ⌜ r ≡ isFine (listVerdict (now (list .entry))) ⌝ }
+{
+    let v = check_list(list);
+    match v {
+        Checked::Good(_) => true,
+        Checked::Refused(_) => false,
+    }
 }
 
 // Whether the tags of a list are looked at: those of one that is accepted, with a catalog whose types are not nested too deep. Then the

@@ -129,7 +129,7 @@ module _ (c : Cost) (b : ℕ) where
 -- ---- few packets
 
 -- each reply within the limit of an entry
-abbrev Low : List Size → Type 0
+abbrev pub Low : List Size → Type 0
 Low zs = All (λ (z : Size). z .reply ≤ largestEntry) zs
 
 sizes-low : (ts us : List ℕ) → Small us → Low (sizesOf ts us)
@@ -164,16 +164,20 @@ module _ (c : Cost) (b : ℕ) where
   few [] l a = omega arith
   few (z ∷ zs) l a = few-step a z zs (way c b a z) (l .0) (few zs (l .1))
 
-  -- tables that pass have fewer packets than the largest number
-  pub steps-exact : (t u : List ℕ) → Tables t u → (stepsOf c b (started b) (sizesOf t u) .packets ≡ packets c b (sizesOf t u)) × (packets c b (sizesOf t u) < 2 ^ 64)
-  steps-exact t u s =
-      let zs = sizesOf t u in
-      let l = sizes-few t u .0 in
-      let m = s .few in
-      let w = few zs (sizes-low t u (s .replies)) (held (started b)) in
+  -- so many reads have fewer packets than the largest number
+  pub steps-low : (zs : List Size) → length zs ≤ 256 → Low zs → (stepsOf c b (started b) zs .packets ≡ packets c b zs) × (packets c b zs < 2 ^ 64)
+  steps-low zs m l =
+      let w = few zs l (held (started b)) in
       let p = packets-added c b zs in
       let q = steps-packets c b zs in
       (omega arith, omega arith)
+
+  -- tables that pass have
+  pub steps-exact : (t u : List ℕ) → Tables t u → (stepsOf c b (started b) (sizesOf t u) .packets ≡ packets c b (sizesOf t u)) × (packets c b (sizesOf t u) < 2 ^ 64)
+  steps-exact t u s =
+      let l = sizes-few t u .0 in
+      let m = s .few in
+      steps-low (sizesOf t u) (omega arith) (sizes-low t u (s .replies))
 
 -- ---- the loop over both tables
 

@@ -3,7 +3,7 @@
 use Prim.Native.Nat.{ℕ, zero, suc, _+_, _-_, _≤_, _<_}
 use mathlib.Core.Path.{_≡_, refl, sym, ap, _∙_}
 use mathlib.Core.Bool.{Bool, true, false, cond, _&&_}
-use mathlib.Core.List.{List, [], _∷_, _++_}
+use mathlib.Core.List.{[], _∷_, _++_}
 use mathlib.Core.Option.{Option, none, some}
 use native.Mathlib.Omega.{arith}
 use lib.Dec.{eqb, ltb}
@@ -12,7 +12,7 @@ use borrow.Author.Tests.{eqb-true, ltb-false, le-ltb}
 use Rattle.fields.specs.Options.{andThen}
 use Rattle.fields.specs.Text.{Text, between}
 use Rattle.fields.specs.Decimal.{isDigit, allDigits, leadingDigits, valueFrom, numeralOf}
-use Rattle.fields.specs.Format.{Verdict, fine, bad}
+use Rattle.fields.specs.Format.{fine, bad}
 use Rattle.fields.specs.Fields.{opensIndex, digitsAbove, indexCheck}
 use Rattle.fields.specs.declared.Refusal.the-variants.{IndexTooLarge}
 use Rattle.fields.proofs.Lists.{drop-next, drop-past, part-drop}

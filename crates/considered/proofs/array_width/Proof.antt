@@ -1,30 +1,21 @@
+-- `array_width` meets its contract: a barred array has no width, any other the one of its node.
 use Rattle.considered.proofs.Noded.{width-barred, width-free}
 use borrow.Author.Needs.{needs}
 use Rattle.considered.proofs.array_width.Statement.{statement}
 use Rattle.considered.proofs.array_width.Tie as tie
-use Rattle.considered.proofs.array_width.Reads as reads
-use Rattle.considered.proofs.array_width.Lts as lts
-use Rattle.considered.proofs.found_at.Reads as found-at-reads
-use Rattle.lists.proofs.bars.is_barred.Reads as is-barred-reads
-use Rattle.sizes.proofs.reply.element_size.Reads as element-size-reads
 
--- src/lib.rt:137:8
 is-barred-requires : tie.Need-is-barred-requires
 is-barred-requires c κs = search needs
 
--- src/lib.rt:138:9
 returns : tie.Need-returns
 returns c = width-barred _ (c .before .before .before .before .before .args .name .now) _ (c .before .before .before .before .before .pre) _ _ (c .before .is-barred .ensures) (c .if1 .taken)
 
--- src/lib.rt:140:27
 found-at-requires : tie.Need-found-at-requires
 found-at-requires c κs = search needs
 
--- src/lib.rt:140:5
 element-size-requires : tie.Need-element-size-requires
 element-size-requires c κs = search needs
 
--- src/lib.rt:133:1
 returns-2 : tie.Need-returns-2
 returns-2 c = width-free _ (c .before .before .before .before .before .before .before .args .name .now) _ (c .before .before .before .before .before .before .before .pre) _ _ (c .before .before .before .is-barred .ensures) _ _ (c .before .before .if1 .left) (c .before .found-at .ensures) (c .element-size .ensures)
 

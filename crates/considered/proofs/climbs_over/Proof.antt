@@ -1,43 +1,32 @@
+-- `climbs_over` meets its contract: the climb goes on over a name, and over one index of what holds no bits.
 use Rattle.considered.proofs.Named.{later-two, climbs-dot, climbs-missing, climbs-item}
 use mathlib.Core.Path.{sym, _∙_}
 use native.Mathlib.Omega.{arith}
 use borrow.Author.Needs.{needs}
 use Rattle.considered.proofs.climbs_over.Statement.{statement}
 use Rattle.considered.proofs.climbs_over.Tie as tie
-use Rattle.considered.proofs.climbs_over.Reads as reads
-use Rattle.considered.proofs.climbs_over.Lts as lts
-use Rattle.considered.proofs.is_apart.Reads as is-apart-reads
-use Rattle.considered.proofs.one_index.Reads as one-index-reads
 
--- src/lib.rt:122:8
 shared-slice-read-if1 : tie.Need-shared-slice-read-if1
 shared-slice-read-if1 c = let l = later-two (c .before .before .before .args .t .now) (c .before .before .before .pre) in omega arith
 
--- src/lib.rt:123:9
 returns : tie.Need-returns
 returns c = climbs-dot (c .before .before .before .before .args .t .now) (c .before .before .before .before .pre) _ (c .if1 .taken)
 
--- src/lib.rt:125:9
 one-index-requires : tie.Need-one-index-requires
 one-index-requires c κs = c .before .before .before .before .pre
 
--- src/lib.rt:127:29
 enum-told : tie.Need-enum-told
 enum-told c = search needs
 
--- src/lib.rt:128:30
 enum-told-2 : tie.Need-enum-told-2
 enum-told-2 c = search needs
 
--- src/lib.rt:128:30
 is-apart-requires : tie.Need-is-apart-requires
 is-apart-requires c κs = search needs
 
--- src/lib.rt:118:1
 returns-2 : tie.Need-returns-2
 returns-2 c = climbs-missing (c .before .before .before .before .before .before .before .args .t .now) (c .before .before .before .before .before .before .before .pre) _ (c .before .before .before .if1 .left) (sym (c .before .before .one-index .ensures) ∙ c .enum-told .given .1)
 
--- src/lib.rt:118:1
 returns-3 : tie.Need-returns-3
 returns-3 c = climbs-item (c .before .before .before .before .before .before .before .before .args .t .now) (c .before .before .before .before .before .before .before .before .pre) _ _ _ (c .before .before .before .before .if1 .left) (sym (c .before .before .before .one-index .ensures) ∙ c .before .enum-told2 .given .1) (c .is-apart .ensures)
 

@@ -1,3 +1,4 @@
+-- `element_of` meets its contract: by the last token and the front before it, as the laws in Elements say.
 use Rattle.considered.proofs.Elements.{no-tokens, array-within, last-later, index-limit, element-missing, element-unknown, element-known}
 use Rattle.considered.proofs.Fitting.{width-fits}
 use Rattle.considered.proofs.Fronts.{level-at}
@@ -10,117 +11,85 @@ use native.Mathlib.Omega.{arith}
 use borrow.Author.Needs.{needs}
 use Rattle.considered.proofs.element_of.Statement.{statement}
 use Rattle.considered.proofs.element_of.Tie as tie
-use Rattle.considered.proofs.element_of.Reads as reads
-use Rattle.considered.proofs.element_of.Lts as lts
-use Rattle.considered.proofs.array_width.Reads as array-width-reads
-use Rattle.considered.proofs.no_element.Reads as no-element-reads
-use Rattle.considered.proofs.one_index.Reads as one-index-reads
 
--- src/lib.rt:283:9
 no-element-requires : tie.Need-no-element-requires
 no-element-requires c κs = search needs
 
--- src/lib.rt:283:9
 returns : tie.Need-returns
 returns c = no-tokens _ _ _ _ _ (c .before .if1 .taken) (c .no-element .ensures)
 
--- src/lib.rt:285:16
 sub-last : tie.Need-sub-last
 sub-last c = search needs
 
--- src/lib.rt:286:22
 sub-array : tie.Need-sub-array
 sub-array c = search needs
 
--- src/lib.rt:286:17
 mul-array : tie.Need-mul-array
 mul-array c = search needs
 
--- src/lib.rt:286:17
 element-copy-out-array : tie.Need-element-copy-out-array
 element-copy-out-array c = search needs
 
--- src/lib.rt:287:27
 sub-one-index : tie.Need-sub-one-index
 sub-one-index c = let a = c .before .before .before .before .before .args in array-within (a .catalog .now) (a .name .now) (a .ends .now) (a .nodes .now) (listOf (a .list .now)) (c .before .before .before .before .before .pre .0) (a .n) (c .before .before .before .before .before .pre .1) (c .before .if1 .left)
 
--- src/lib.rt:287:27
 part-one-index-start : tie.Need-part-one-index-start
 part-one-index-start c = let a = c .before .before .before .before .before .args in array-within (a .catalog .now) (a .name .now) (a .ends .now) (a .nodes .now) (listOf (a .list .now)) (c .before .before .before .before .before .pre .0) (a .n) (c .before .before .before .before .before .pre .1) (c .before .if1 .left)
 
--- src/lib.rt:287:27
 part-one-index-end : tie.Need-part-one-index-end
 part-one-index-end c = search needs
 
--- src/lib.rt:287:9
 one-index-requires : tie.Need-one-index-requires
 one-index-requires c κs = let a = c .before .before .before .before .before .before .args in last-later (a .catalog .now) (a .name .now) (a .ends .now) (a .nodes .now) (listOf (a .list .now)) (c .before .before .before .before .before .before .pre .0) (a .n) (c .before .before .before .before .before .before .pre .1) (c .before .before .if1 .left)
 
--- src/lib.rt:289:29
 enum-told : tie.Need-enum-told
 enum-told c = search needs
 
--- src/lib.rt:289:29
 no-element-requires-2 : tie.Need-no-element-requires-2
 no-element-requires-2 c κs = search needs
 
--- src/lib.rt:290:24
 enum-known-index : tie.Need-enum-known-index
 enum-known-index c = search needs
 
--- src/lib.rt:291:52
 slice-aggregate-array-width : tie.Need-slice-aggregate-array-width
 slice-aggregate-array-width c = let a = c .before .before .before .before .before .before .before .before .before .before .before .args in sym (length-take-le (getD (a .ends .now) (a .n - 1 - 1) 0) (a .name .now) (array-within (a .catalog .now) (a .name .now) (a .ends .now) (a .nodes .now) (listOf (a .list .now)) (c .before .before .before .before .before .before .before .before .before .before .before .pre .0) (a .n) (c .before .before .before .before .before .before .before .before .before .before .before .pre .1) (c .before .before .before .before .before .before .before .if1 .left)))
 
--- src/lib.rt:291:74
 sub-array-width : tie.Need-sub-array-width
 sub-array-width c = search needs
 
--- src/lib.rt:291:68
 mul-array-width : tie.Need-mul-array-width
 mul-array-width c = search needs
 
--- src/lib.rt:291:68
 element-copy-out-array-width : tie.Need-element-copy-out-array-width
 element-copy-out-array-width c = search needs
 
--- src/lib.rt:291:17
 array-width-requires : tie.Need-array-width-requires
 array-width-requires c κs = let a = c .before .before .before .before .before .before .before .before .before .before .before .before .args in let e = c .before .before .before .before .before .before .before .before .before .before .before .before .pre .1 in level-at (a .catalog .now) (a .name .now) (a .ends .now) (a .nodes .now) (c .before .before .before .before .before .before .before .before .before .before .before .before .pre .0) (a .n - 1 - 1) (omega arith) .leading
 
--- src/lib.rt:293:35
 enum-told-2 : tie.Need-enum-told-2
 enum-told-2 c = search needs
 
--- src/lib.rt:293:35
 no-element-requires-3 : tie.Need-no-element-requires-3
 no-element-requires-3 c κs = search needs
 
--- src/lib.rt:294:30
 enum-known-width : tie.Need-enum-known-width
 enum-known-width c = search needs
 
--- src/lib.rt:295:28
 cast-t31 : tie.Need-cast-t31
 cast-t31 c = let h = width-fits _ _ _ _ (sym (c .before .before .before .array-width .ensures) ∙ c .before .width .given .1) in omega arith
 
--- src/lib.rt:296:28
 cast-t32 : tie.Need-cast-t32
 cast-t32 c = let a = c .before .before .before .before .before .before .before .before .before .before .before .before .before .before .before .before .args in let h = index-limit (a .catalog .now) (a .name .now) (a .ends .now) (a .nodes .now) (listOf (a .list .now)) (c .before .before .before .before .before .before .before .before .before .before .before .before .before .before .before .before .pre .0) (a .n) (c .before .before .before .before .before .before .before .before .before .before .before .before .before .before .before .before .pre .1) (c .before .before .before .before .before .before .before .before .before .before .before .before .if1 .left) _ (sym (c .before .before .before .before .before .before .before .before .before .one-index .ensures) ∙ c .before .before .before .before .before .before .before .index .given .1) (c .before .before .before .before .before .before .before .before .before .before .before .before .before .before .before .before .pre .2) in omega arith
 
--- src/lib.rt:297:28
 cast-t33 : tie.Need-cast-t33
 cast-t33 c = let a = c .before .before .before .before .before .before .before .before .before .before .before .before .before .before .before .before .args in let h = array-within (a .catalog .now) (a .name .now) (a .ends .now) (a .nodes .now) (listOf (a .list .now)) (c .before .before .before .before .before .before .before .before .before .before .before .before .before .before .before .before .pre .0) (a .n) (c .before .before .before .before .before .before .before .before .before .before .before .before .before .before .before .before .pre .1) (c .before .before .before .before .before .before .before .before .before .before .before .before .if1 .left) in let s = c .before .before .before .before .before .before .before .before .before .before .before .before .before .before .before .before .pre .0 .short in omega arith
 
--- src/lib.rt:278:1
 returns-2 : tie.Need-returns-2
 returns-2 c = let a = c .before .before .before .before .before .before .before .before .before .before .args in element-missing (a .catalog .now) (a .name .now) (a .ends .now) (a .nodes .now) (listOf (a .list .now)) (c .before .before .before .before .before .before .before .before .before .before .pre .0) (a .n) (c .before .before .before .before .before .before .before .before .before .before .pre .1) (c .before .before .before .before .before .before .if1 .left) _ (sym (c .before .before .before .one-index .ensures) ∙ c .before .enum-told .given .1) (c .no-element2 .ensures)
 
--- src/lib.rt:278:1
 returns-3 : tie.Need-returns-3
 returns-3 c = let a = c .before .before .before .before .before .before .before .before .before .before .before .before .before .before .before .before .args in element-unknown (a .catalog .now) (a .name .now) (a .ends .now) (a .nodes .now) (listOf (a .list .now)) (c .before .before .before .before .before .before .before .before .before .before .before .before .before .before .before .before .pre .0) (a .n) (c .before .before .before .before .before .before .before .before .before .before .before .before .before .before .before .before .pre .1) (c .before .before .before .before .before .before .before .before .before .before .before .before .if1 .left) _ (sym (c .before .before .before .before .before .before .before .before .before .one-index .ensures) ∙ c .before .before .before .before .before .before .before .index .given .1) _ (sym (c .before .before .before .array-width .ensures) ∙ c .before .enum-told2 .given .1) (c .no-element3 .ensures)
 
--- src/lib.rt:278:1
 returns-4 : tie.Need-returns-4
 returns-4 c = let a = c .before .before .before .before .before .before .before .before .before .before .before .before .before .before .before .before .args in element-known (a .catalog .now) (a .name .now) (a .ends .now) (a .nodes .now) (listOf (a .list .now)) (c .before .before .before .before .before .before .before .before .before .before .before .before .before .before .before .before .pre .0) (a .n) (c .before .before .before .before .before .before .before .before .before .before .before .before .before .before .before .before .pre .1) (c .before .before .before .before .before .before .before .before .before .before .before .before .if1 .left) _ (sym (c .before .before .before .before .before .before .before .before .before .one-index .ensures) ∙ c .before .before .before .before .before .before .before .index .given .1) _ (sym (c .before .before .before .array-width .ensures) ∙ c .before .width .given .1)
 

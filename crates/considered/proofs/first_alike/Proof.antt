@@ -1,3 +1,4 @@
+-- `first_alike` meets its contract: what is left of the tags before gives the same position as all of them.
 use Rattle.considered.proofs.Alikes.{alike-here, alike-later, alike-none}
 use Rattle.considered.specs.Answers.{firstAlike}
 use Rattle.lists.specs.Lists.{listOf}
@@ -10,10 +11,6 @@ use borrow.Author.Needs.{needs}
 use native.Mathlib.Omega.{arith}
 use Rattle.considered.proofs.first_alike.Statement.{statement}
 use Rattle.considered.proofs.first_alike.Tie as tie
-use Rattle.considered.proofs.first_alike.Reads as reads
-use Rattle.considered.proofs.first_alike.Lts as lts
-use Rattle.considered.proofs.tag_part.Reads as tag-part-reads
-use Rattle.fields.proofs.text.equal_ignoring_case.Reads as equal-ignoring-case-reads
 
 abbrev Inv-loop : tie.InvT-loop
 Inv-loop list places i a b j₀ j = (j ≤ i) × (firstAlike (getD (listOf list .tags) i []) (drop j (take i (listOf list .tags))) j ≡ firstAlike (getD (listOf list .tags) i []) (take i (listOf list .tags)) 0)
@@ -21,63 +18,48 @@ Inv-loop list places i a b j₀ j = (j ≤ i) × (firstAlike (getD (listOf list 
 abbrev μ-loop : tie.MeasureT-loop
 μ-loop list places i a b j₀ j = i - j
 
--- src/lib.rt:316:9
 tag-part-requires : tie.Need-tag-part-requires Inv-loop μ-loop
 tag-part-requires c κs = (c .before .pre .0, c .before .pre .1)
 
--- src/lib.rt:320:5
 loop-holds : tie.Need-loop-holds Inv-loop μ-loop
 loop-holds c = (omega arith, refl)
 
--- src/lib.rt:321:13
 tag-part-requires-2 : tie.Need-tag-part-requires-2 Inv-loop μ-loop
 tag-part-requires-2 c κs = (c .before .before .before .before .pre .0, let h = c .before .before .before .before .pre .1 in omega arith)
 
--- src/lib.rt:324:32
 sub-equal-ignoring-case : tie.Need-sub-equal-ignoring-case Inv-loop μ-loop
 sub-equal-ignoring-case c = search needs
 
--- src/lib.rt:324:32
 part-equal-ignoring-case-start : tie.Need-part-equal-ignoring-case-start Inv-loop μ-loop
 part-equal-ignoring-case-start c = search needs
 
--- src/lib.rt:324:32
 part-equal-ignoring-case-end : tie.Need-part-equal-ignoring-case-end Inv-loop μ-loop
 part-equal-ignoring-case-end c = search needs
 
--- src/lib.rt:324:45
 sub-equal-ignoring-case-2 : tie.Need-sub-equal-ignoring-case-2 Inv-loop μ-loop
 sub-equal-ignoring-case-2 c = search needs
 
--- src/lib.rt:324:45
 part-equal-ignoring-case-start-2 : tie.Need-part-equal-ignoring-case-start-2 Inv-loop μ-loop
 part-equal-ignoring-case-start-2 c = search needs
 
--- src/lib.rt:324:45
 part-equal-ignoring-case-end-2 : tie.Need-part-equal-ignoring-case-end-2 Inv-loop μ-loop
 part-equal-ignoring-case-end-2 c = search needs
 
--- src/lib.rt:324:12
 equal-ignoring-case-requires : tie.Need-equal-ignoring-case-requires Inv-loop μ-loop
 equal-ignoring-case-requires c κs = search needs
 
--- src/lib.rt:325:13
 returns : tie.Need-returns Inv-loop μ-loop
 returns c = (alike-here _ _ _ _ (c .before .before .before .before .before .before .before .before .before .pre .1) (c .before .before .before .before .before .before .loop .inv .1) _ (c .before .before .before .before .before .loop-test .taken) (c .before .equal-ignoring-case .ensures ∙ ap₂ alike (c .before .before .before .before .before .before .before .tag-part .ensures .0) (c .before .before .before .before .tag-part2 .ensures .0)) (c .if1 .taken), omega arith)
 
--- src/lib.rt:327:9
 add-j : tie.Need-add-j Inv-loop μ-loop
 add-j c = search needs
 
--- src/lib.rt:320:5
 loop-less : tie.Need-loop-less Inv-loop μ-loop
 loop-less c = search needs
 
--- src/lib.rt:320:5
 loop-again : tie.Need-loop-again Inv-loop μ-loop
 loop-again c = (omega arith, alike-later _ _ _ _ (c .before .before .before .before .before .before .before .before .before .pre .1) (c .before .before .before .before .before .before .loop .inv .1) _ (c .before .before .before .before .before .loop-test .taken) (c .before .equal-ignoring-case .ensures ∙ ap₂ alike (c .before .before .before .before .before .before .before .tag-part .ensures .0) (c .before .before .before .before .tag-part2 .ensures .0)) (c .if1 .left))
 
--- src/lib.rt:312:1
 returns-2 : tie.Need-returns-2 Inv-loop μ-loop
 returns-2 c = (alike-none _ _ _ _ (c .before .before .before .before .pre .1) (c .before .loop .inv .1) (c .loop-test .left) (c .before .loop .inv .0), omega arith)
 

@@ -1,14 +1,11 @@
+-- `flag` meets its contract: 1 for yes, 0 for no.
 use Rattle.considered.proofs.Noded.{flag-yes, flag-no}
 use Rattle.considered.proofs.flag.Statement.{statement}
 use Rattle.considered.proofs.flag.Tie as tie
-use Rattle.considered.proofs.flag.Reads as reads
-use Rattle.considered.proofs.flag.Lts as lts
 
--- src/lib.rt:181:9
 returns : tie.Need-returns
 returns c = flag-yes _ (c .if1 .taken)
 
--- src/lib.rt:177:1
 returns-2 : tie.Need-returns-2
 returns-2 c = flag-no _ (c .if1 .left)
 

@@ -1,20 +1,15 @@
+-- `is_counted` meets its contract: a tag counts where it is no second spelling and is read.
 use Rattle.considered.proofs.Viewing.{counted-known, counted-not}
 use borrow.Author.Needs.{needs}
 use Rattle.considered.proofs.is_counted.Statement.{statement}
 use Rattle.considered.proofs.is_counted.Tie as tie
-use Rattle.considered.proofs.is_counted.Reads as reads
-use Rattle.considered.proofs.is_counted.Lts as lts
-use Rattle.considered.proofs.is_read.Reads as is-read-reads
 
--- src/lib.rt:483:9
 is-read-requires : tie.Need-is-read-requires
 is-read-requires c κs = search needs
 
--- src/lib.rt:483:9
 returns : tie.Need-returns
 returns c = counted-known _ (c .before .before .before .before .args .name .now) _ _ (c .before .if1 .taken) (c .is-read .ensures)
 
--- src/lib.rt:478:1
 returns-2 : tie.Need-returns-2
 returns-2 c = counted-not _ (c .before .before .before .args .name .now) _ (c .if1 .left)
 

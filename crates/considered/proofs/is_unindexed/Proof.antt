@@ -1,3 +1,4 @@
+-- `is_unindexed` meets its contract: a name ends in a closing bracket just where its last token is no name.
 use Rattle.names.proofs.Ranges.{last}
 use Rattle.considered.proofs.Named.{name-long}
 use Rattle.considered.proofs.Noded.{unindexed-plain, unindexed-array}
@@ -5,27 +6,19 @@ use native.Mathlib.Omega.{arith}
 use borrow.Author.Needs.{needs}
 use Rattle.considered.proofs.is_unindexed.Statement.{statement}
 use Rattle.considered.proofs.is_unindexed.Tie as tie
-use Rattle.considered.proofs.is_unindexed.Reads as reads
-use Rattle.considered.proofs.is_unindexed.Lts as lts
-use Rattle.nodes.proofs.value.node_at.Reads as node-at-reads
 
--- src/lib.rt:70:9
 node-at-requires : tie.Need-node-at-requires
 node-at-requires c κs = search needs
 
--- src/lib.rt:72:9
 returns : tie.Need-returns
 returns c = unindexed-plain _ (c .before .before .before .before .before .args .name .now) _ (c .before .before .before .before .before .pre) _ (c .before .before .node-at .ensures .0) (c .if1 .taken)
 
--- src/lib.rt:74:16
 sub-last : tie.Need-sub-last
 sub-last c = name-long (c .before .before .before .before .before .args .name .now) (c .before .before .before .before .before .pre)
 
--- src/lib.rt:75:5
 shared-slice-read-result : tie.Need-shared-slice-read-result
 shared-slice-read-result c = let l = name-long (c .before .before .before .before .before .before .args .name .now) (c .before .before .before .before .before .before .pre) in omega arith
 
--- src/lib.rt:66:1
 returns-2 : tie.Need-returns-2
 unfolding last
 returns-2 c = unindexed-array _ (c .before .before .before .before .before .before .args .name .now) _ (c .before .before .before .before .before .before .pre) _ (c .before .before .before .node-at .ensures .0) (c .before .if1 .left)

@@ -1,11 +1,9 @@
+-- `no_element` meets its contract.
 use Rattle.considered.specs.Answers.{elementTold}
 use mathlib.Core.Path.{refl}
 use Rattle.considered.proofs.no_element.Statement.{statement}
 use Rattle.considered.proofs.no_element.Tie as tie
-use Rattle.considered.proofs.no_element.Reads as reads
-use Rattle.considered.proofs.no_element.Lts as lts
 
--- src/lib.rt:267:1
 returns : tie.Need-returns
 unfolding elementTold
 returns c = refl

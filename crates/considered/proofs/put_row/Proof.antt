@@ -1,3 +1,4 @@
+-- `put_row` meets its contract: a row is set where the size is known, and nothing else is touched.
 use Rattle.considered.proofs.Tabling.{put-unknown, put-known}
 use Rattle.considered.specs.Answers.{SizeFits}
 use Prim.Native.Nat.{_<_}
@@ -6,66 +7,49 @@ use native.Mathlib.Omega.{arith}
 use borrow.Author.Needs.{needs}
 use Rattle.considered.proofs.put_row.Statement.{statement}
 use Rattle.considered.proofs.put_row.Tie as tie
-use Rattle.considered.proofs.put_row.Reads as reads
-use Rattle.considered.proofs.put_row.Lts as lts
 
--- src/lib.rt:222:27
 enum-told : tie.Need-enum-told
 enum-told c = search needs
 
--- src/lib.rt:223:22
 enum-known-size : tie.Need-enum-known-size
 enum-known-size c = search needs
 
--- src/lib.rt:224:26
 cast-owners : tie.Need-cast-owners
 cast-owners c = search needs
 
--- src/lib.rt:224:13
 slice-write-owners : tie.Need-slice-write-owners
 slice-write-owners c = search needs
 
--- src/lib.rt:225:27
 cast-lengths : tie.Need-cast-lengths
 cast-lengths c = search needs
 
--- src/lib.rt:225:13
 slice-write-lengths : tie.Need-slice-write-lengths
 slice-write-lengths c = search needs
 
--- src/lib.rt:226:25
 cast-sizes : tie.Need-cast-sizes
 cast-sizes c = let h : c .before .size .given .0 .0 < 65536 = subst SizeFits (c .before .size .given .1) (c .before .before .before .pre .4) in omega arith
 
--- src/lib.rt:226:13
 mul-sizes : tie.Need-mul-sizes
 mul-sizes c = search needs
 
--- src/lib.rt:226:13
 slice-write-sizes : tie.Need-slice-write-sizes
 slice-write-sizes c = search needs
 
--- src/lib.rt:227:13
 add-result : tie.Need-add-result
 add-result c = search needs
 
--- src/lib.rt:217:1
 returns : tie.Need-returns
 returns c = put-unknown _ _ _ _ (c .before .before .pre .0) _ _ _ (c .before .before .pre .1) (c .enum-told .given .1)
 
--- src/lib.rt:217:1
 same-length : tie.Need-same-length
 same-length c = search needs
 
--- src/lib.rt:217:1
 same-length-2 : tie.Need-same-length-2
 same-length-2 c = search needs
 
--- src/lib.rt:217:1
 same-length-3 : tie.Need-same-length-3
 same-length-3 c = search needs
 
--- src/lib.rt:217:1
 returns-2 : tie.Need-returns-2
 returns-2 c = put-known _ _ _ _ (c .before .before .before .pre .0) _ _ _ _ (c .before .before .before .pre .1) (c .before .size .given .1)
 

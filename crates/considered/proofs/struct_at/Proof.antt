@@ -1,46 +1,33 @@
+-- `struct_at` meets its contract: each reason for no size in turn, and else the size by the marks.
 use Rattle.considered.proofs.Noded.{struct-none, struct-barred, struct-unindexed, struct-whole}
 use borrow.Author.Needs.{needs}
 use Rattle.considered.proofs.struct_at.Statement.{statement}
 use Rattle.considered.proofs.struct_at.Tie as tie
-use Rattle.considered.proofs.struct_at.Reads as reads
-use Rattle.considered.proofs.struct_at.Lts as lts
-use Rattle.considered.proofs.is_unindexed.Reads as is-unindexed-reads
-use Rattle.lists.proofs.bars.is_barred.Reads as is-barred-reads
-use Rattle.structs.proofs.struct_size.Reads as struct-size-reads
 
--- src/lib.rt:84:9
 returns : tie.Need-returns
 returns c = struct-none _ (c .before .before .before .before .args .name .now) (c .before .before .before .before .args .list .now) (c .before .before .before .before .args .marks .now) _ (c .before .before .before .before .pre .0) (c .if1 .taken)
 
--- src/lib.rt:86:8
 is-barred-requires : tie.Need-is-barred-requires
 is-barred-requires c κs = search needs
 
--- src/lib.rt:87:9
 returns-2 : tie.Need-returns-2
 returns-2 c = struct-barred _ (c .before .before .before .before .before .before .args .name .now) (c .before .before .before .before .before .before .args .list .now) (c .before .before .before .before .before .before .args .marks .now) _ (c .before .before .before .before .before .before .pre .0) _ (c .before .is-barred .ensures) (c .if2 .taken)
 
--- src/lib.rt:89:36
 sub-is-unindexed : tie.Need-sub-is-unindexed
 sub-is-unindexed c = search needs
 
--- src/lib.rt:89:8
 is-unindexed-requires : tie.Need-is-unindexed-requires
 is-unindexed-requires c κs = c .before .before .before .before .before .before .pre .0 .some-tokens
 
--- src/lib.rt:90:9
 returns-3 : tie.Need-returns-3
 returns-3 c = struct-unindexed _ (c .before .before .before .before .before .before .before .before .args .name .now) (c .before .before .before .before .before .before .before .before .args .list .now) (c .before .before .before .before .before .before .before .before .args .marks .now) _ (c .before .before .before .before .before .before .before .before .pre .0) _ (c .before .before .before .is-barred .ensures) _ (c .before .before .if2 .left) (c .before .before .before .before .if1 .left) (c .before .is-unindexed .ensures) (c .if3 .taken)
 
--- src/lib.rt:92:43
 sub-t10 : tie.Need-sub-t10
 sub-t10 c = search needs
 
--- src/lib.rt:92:5
 struct-size-requires : tie.Need-struct-size-requires
 struct-size-requires c κs = search needs
 
--- src/lib.rt:79:1
 returns-4 : tie.Need-returns-4
 returns-4 c = struct-whole _ (c .before .before .before .before .before .before .before .before .before .before .args .name .now) (c .before .before .before .before .before .before .before .before .before .before .args .list .now) (c .before .before .before .before .before .before .before .before .before .before .args .marks .now) _ (c .before .before .before .before .before .before .before .before .before .before .pre .0) _ (c .before .before .before .before .before .is-barred .ensures) _ (c .before .before .before .before .if2 .left) (c .before .before .before .before .before .before .if1 .left) (c .before .before .before .is-unindexed .ensures) _ _ (c .before .before .if3 .left) (c .before .before .before .before .before .before .before .before .before .before .pre .1) (c .before .before .before .before .before .before .before .before .before .before .pre .2) (c .struct-size .ensures)
 

@@ -1,24 +1,18 @@
+-- `tag_part` meets its contract: the text at the place in the column is the tag at its position.
 use Rattle.considered.proofs.Alikes.{tag-at}
 use borrow.Author.Needs.{needs}
 use Rattle.considered.proofs.tag_part.Statement.{statement}
 use Rattle.considered.proofs.tag_part.Tie as tie
-use Rattle.considered.proofs.tag_part.Reads as reads
-use Rattle.considered.proofs.tag_part.Lts as lts
-use Rattle.fields.proofs.check.text_at.Reads as text-at-reads
 
--- src/lib.rt:308:19
 mul-text-at : tie.Need-mul-text-at
 mul-text-at c = search needs
 
--- src/lib.rt:308:19
 element-copy-out-text-at : tie.Need-element-copy-out-text-at
 element-copy-out-text-at c = search needs
 
--- src/lib.rt:308:5
 text-at-requires : tie.Need-text-at-requires
 text-at-requires c κs = search needs
 
--- src/lib.rt:304:1
 returns : tie.Need-returns
 returns c = (tag-at _ (c .before .before .before .args .places .now) _ _ (c .before .before .before .pre .0) (c .before .before .before .pre .1) (c .text-at .ensures .0), c .text-at .ensures .1, c .text-at .ensures .2)
 

@@ -1,3 +1,4 @@
+-- `view_tags` meets its contract: each turn fills one more entry of every column, by the laws in Considering.
 use Prim.Native.Nat.{_-_, _<_}
 use Rattle.considered.proofs.Considering.{Considering, considering-start, considering-room, considering-step, count-end, firsts-end, widths-end, indexes-end, arrays-end, requests-end, replies-end, owners-end, lengths-end, sizes-end}
 use Rattle.considered.proofs.Listing.{limited-all, limited-at}
@@ -8,13 +9,6 @@ use borrow.Author.Needs.{needs}
 use native.Mathlib.Omega.{arith}
 use Rattle.considered.proofs.view_tags.Statement.{statement}
 use Rattle.considered.proofs.view_tags.Tie as tie
-use Rattle.considered.proofs.view_tags.Reads as reads
-use Rattle.considered.proofs.view_tags.Lts as lts
-use Rattle.considered.proofs.first_alike.Reads as first-alike-reads
-use Rattle.considered.proofs.is_spelled.Reads as is-spelled-reads
-use Rattle.considered.proofs.put_view.Reads as put-view-reads
-use Rattle.considered.proofs.tag_part.Reads as tag-part-reads
-use Rattle.considered.proofs.view_tag.Reads as view-tag-reads
 
 abbrev Inv-loop : tie.InvT-loop
 Inv-loop catalog list types marks places tags firsts₀ widths₀ indexes₀ arrays₀ requests₀ replies₀ owners₀ lengths₀ sizes₀ rows₀ i₀ firsts widths indexes arrays requests replies owners lengths sizes rows i =
@@ -24,91 +18,69 @@ abbrev μ-loop : tie.MeasureT-loop
 μ-loop catalog list types marks places tags firsts₀ widths₀ indexes₀ arrays₀ requests₀ replies₀ owners₀ lengths₀ sizes₀ rows₀ i₀ firsts widths indexes arrays requests replies owners lengths sizes rows i =
     tags - i
 
--- src/lib.rt:614:5
 loop-holds : tie.Need-loop-holds Inv-loop μ-loop
 loop-holds c = let a = c .before .before .before .before .before .before .before .before .before .before .before .args in let p = c .before .before .before .before .before .before .before .before .before .before .before .pre in considering-start (a .catalog .now) (a .list .now) _ _ _ _ _ _ _ _ _ (p .0 .3 .few) (limited-all (a .list .now) (λ n. c .before .before .before .before .before .before .before .before .before .shared-slice-known2 .given n .fits) (p .0 .0)) (p .1 .0) (p .1 .1)
 
--- src/lib.rt:615:13
 tag-part-requires : tie.Need-tag-part-requires Inv-loop μ-loop
 tag-part-requires c κs = let p = c .before .before .before .before .before .before .before .before .before .before .before .before .before .pre in let e = p .0 .4 in (p .0 .3, omega arith)
 
--- src/lib.rt:618:13
 first-alike-requires : tie.Need-first-alike-requires Inv-loop μ-loop
 first-alike-requires c κs = let p = c .before .before .before .before .before .before .before .before .before .before .before .before .before .before .pre in let e = p .0 .4 in (p .0 .3, omega arith)
 
--- src/lib.rt:619:13
 is-spelled-requires : tie.Need-is-spelled-requires Inv-loop μ-loop
 is-spelled-requires c κs = let p = c .before .before .before .before .before .before .before .before .before .before .before .before .before .before .before .pre in let e = p .0 .4 in (p .0 .3, omega arith, c .first-alike .ensures .1)
 
--- src/lib.rt:620:55
 sub-view-tag : tie.Need-sub-view-tag Inv-loop μ-loop
 sub-view-tag c = search needs
 
--- src/lib.rt:620:55
 part-view-tag-start : tie.Need-part-view-tag-start Inv-loop μ-loop
 part-view-tag-start c = search needs
 
--- src/lib.rt:620:55
 part-view-tag-end : tie.Need-part-view-tag-end Inv-loop μ-loop
 part-view-tag-end c = search needs
 
--- src/lib.rt:620:13
 view-tag-requires : tie.Need-view-tag-requires Inv-loop μ-loop
 view-tag-requires c κs = let a = c .before .before .before .before .before .before .before .before .before .before .before .before .before .before .before .before .before .before .before .before .args in let p = c .before .before .before .before .before .before .before .before .before .before .before .before .before .before .before .before .before .before .before .before .pre in let k = c .before .before .before .before .before .before .before .before .loop .inv in let e = p .0 .4 in let m = p .0 .3 .few in (subst Limited (sym (c .before .before .before .before .before .before .tag-part .ensures .0)) (limited-at (listOf (a .list .now) .tags) _ (limited-all (a .list .now) (λ n. c .before .before .before .before .before .before .before .before .before .before .before .before .before .before .before .before .before .before .shared-slice-known2 .given n .fits) (p .0 .0))), p .0 .1, p .0 .2, omega arith, k .columns, considering-room (a .catalog .now) (a .list .now) _ _ _ _ _ _ _ _ _ _ _ _ _ _ _ _ _ _ _ _ k (omega arith) m)
 
--- src/lib.rt:622:9
 put-view-requires : tie.Need-put-view-requires Inv-loop μ-loop
 put-view-requires c κs = let p = c .before .before .before .before .before .before .before .before .before .before .before .before .before .before .before .before .before .before .before .before .before .before .before .before .before .before .before .before .before .before .before .before .before .pre in let k = c .before .before .before .before .before .before .before .before .before .before .before .before .before .before .before .before .before .before .before .before .before .loop .inv in let e = p .0 .4 in let m = p .0 .3 .few in (k .tag-columns, omega arith)
 
--- src/lib.rt:623:9
 add-i : tie.Need-add-i Inv-loop μ-loop
 add-i c = let h = c .before .before .before .before .before .before .before .before .before .before .before .before .before .before .before .before .before .before .before .before .before .before .before .before .before .before .before .before .before .before .before .before .before .loop-test .taken in let e = c .before .before .before .before .before .before .before .before .before .before .before .before .before .before .before .before .before .before .before .before .before .before .before .before .before .before .before .before .before .before .before .before .before .before .before .before .before .before .before .before .before .before .before .before .before .before .pre .0 .4 in let m = c .before .before .before .before .before .before .before .before .before .before .before .before .before .before .before .before .before .before .before .before .before .before .before .before .before .before .before .before .before .before .before .before .before .before .before .before .before .before .before .before .before .before .before .before .before .before .pre .0 .3 .few in omega (arith, h, e, m)
 
--- src/lib.rt:614:5
 loop-less : tie.Need-loop-less Inv-loop μ-loop
 loop-less c = let h = c .before .before .before .before .before .before .before .before .before .before .before .before .before .before .before .before .before .before .before .before .before .before .before .before .before .before .before .before .before .before .before .before .before .loop-test .taken in omega (arith, h)
 
--- src/lib.rt:614:5
 loop-again : tie.Need-loop-again Inv-loop μ-loop
 loop-again c = let a = c .before .before .before .before .before .before .before .before .before .before .before .before .before .before .before .before .before .before .before .before .before .before .before .before .before .before .before .before .before .before .before .before .before .before .before .before .before .before .before .before .before .before .before .before .before .before .args in let p = c .before .before .before .before .before .before .before .before .before .before .before .before .before .before .before .before .before .before .before .before .before .before .before .before .before .before .before .before .before .before .before .before .before .before .before .before .before .before .before .before .before .before .before .before .before .before .pre in let k = c .before .before .before .before .before .before .before .before .before .before .before .before .before .before .before .before .before .before .before .before .before .before .before .before .before .before .before .before .before .before .before .before .before .before .loop .inv in let e = p .0 .4 in let w = c .before .before .before .before .before .before .before .before .before .before .before .before .put-view .ensures in considering-step (a .catalog .now) (a .list .now) _ _ _ _ _ _ _ _ _ _ _ _ _ _ _ _ _ _ _ _ k _ _ _ _ _ _ _ _ _ _ _ _ _ (subst (λ n. c .before .before .before .before .before .before .before .before .before .before .before .before .before .before .before .before .before .before .before .before .before .before .before .before .before .before .before .before .before .before .before .before .before .before .loop .i < n) e (c .before .before .before .before .before .before .before .before .before .before .before .before .before .before .before .before .before .before .before .before .before .before .before .before .before .before .before .before .before .before .before .before .before .loop-test .taken)) (limited-all (a .list .now) (λ n. c .before .before .before .before .before .before .before .before .before .before .before .before .before .before .before .before .before .before .before .before .before .before .before .before .before .before .before .before .before .before .before .before .before .before .before .before .before .before .before .before .before .before .before .before .shared-slice-known2 .given n .fits) (p .0 .0)) (c .before .before .before .before .before .before .before .before .before .before .before .before .before .before .before .before .before .before .before .before .before .before .before .before .before .before .before .before .before .before .before .before .tag-part .ensures .0) (c .before .before .before .before .before .before .before .before .before .before .before .before .before .before .before .before .before .before .before .before .before .before .before .before .before .before .before .before .before .before .before .first-alike .ensures .0) (c .before .before .before .before .before .before .before .before .before .before .before .before .before .before .before .before .before .before .before .before .before .before .before .before .before .before .before .before .before .before .is-spelled .ensures) (c .before .before .before .before .before .before .before .before .before .before .before .before .before .before .before .before .before .before .before .before .before .before .before .before .before .view-tag .ensures) (w .0) (w .1 .0) (w .1 .1 .0) (w .1 .1 .1 .0) (w .1 .1 .1 .1 .0) (w .1 .1 .1 .1 .1)
 
--- src/lib.rt:582:1
 same-length : tie.Need-same-length Inv-loop μ-loop
 same-length c = let p = c .before .before .before .before .before .before .before .before .before .before .before .before .before .pre in let k = c .before .loop .inv in let x = k .tag-columns in let y = k .columns in let u = p .1 .0 in let v = p .1 .1 in omega arith
 
--- src/lib.rt:582:1
 same-length-2 : tie.Need-same-length-2 Inv-loop μ-loop
 same-length-2 c = let p = c .before .before .before .before .before .before .before .before .before .before .before .before .before .pre in let k = c .before .loop .inv in let x = k .tag-columns in let y = k .columns in let u = p .1 .0 in let v = p .1 .1 in omega arith
 
--- src/lib.rt:582:1
 same-length-3 : tie.Need-same-length-3 Inv-loop μ-loop
 same-length-3 c = let p = c .before .before .before .before .before .before .before .before .before .before .before .before .before .pre in let k = c .before .loop .inv in let x = k .tag-columns in let y = k .columns in let u = p .1 .0 in let v = p .1 .1 in omega arith
 
--- src/lib.rt:582:1
 same-length-4 : tie.Need-same-length-4 Inv-loop μ-loop
 same-length-4 c = let p = c .before .before .before .before .before .before .before .before .before .before .before .before .before .pre in let k = c .before .loop .inv in let x = k .tag-columns in let y = k .columns in let u = p .1 .0 in let v = p .1 .1 in omega arith
 
--- src/lib.rt:582:1
 same-length-5 : tie.Need-same-length-5 Inv-loop μ-loop
 same-length-5 c = let p = c .before .before .before .before .before .before .before .before .before .before .before .before .before .pre in let k = c .before .loop .inv in let x = k .tag-columns in let y = k .columns in let u = p .1 .0 in let v = p .1 .1 in omega arith
 
--- src/lib.rt:582:1
 same-length-6 : tie.Need-same-length-6 Inv-loop μ-loop
 same-length-6 c = let p = c .before .before .before .before .before .before .before .before .before .before .before .before .before .pre in let k = c .before .loop .inv in let x = k .tag-columns in let y = k .columns in let u = p .1 .0 in let v = p .1 .1 in omega arith
 
--- src/lib.rt:582:1
 same-length-7 : tie.Need-same-length-7 Inv-loop μ-loop
 same-length-7 c = let p = c .before .before .before .before .before .before .before .before .before .before .before .before .before .pre in let k = c .before .loop .inv in let x = k .tag-columns in let y = k .columns in let u = p .1 .0 in let v = p .1 .1 in omega arith
 
--- src/lib.rt:582:1
 same-length-8 : tie.Need-same-length-8 Inv-loop μ-loop
 same-length-8 c = let p = c .before .before .before .before .before .before .before .before .before .before .before .before .before .pre in let k = c .before .loop .inv in let x = k .tag-columns in let y = k .columns in let u = p .1 .0 in let v = p .1 .1 in omega arith
 
--- src/lib.rt:582:1
 same-length-9 : tie.Need-same-length-9 Inv-loop μ-loop
 same-length-9 c = let p = c .before .before .before .before .before .before .before .before .before .before .before .before .before .pre in let k = c .before .loop .inv in let x = k .tag-columns in let y = k .columns in let u = p .1 .0 in let v = p .1 .1 in omega arith
 
--- src/lib.rt:582:1
 returns : tie.Need-returns Inv-loop μ-loop
 returns c = let a = c .before .before .before .before .before .before .before .before .before .before .before .before .before .args in let p = c .before .before .before .before .before .before .before .before .before .before .before .before .before .pre in let k = c .before .loop .inv in let e = p .0 .4 in (count-end (a .catalog .now) (a .list .now) _ _ _ _ _ _ _ _ _ _ _ _ _ _ _ _ _ _ _ _ k (omega arith) (limited-all (a .list .now) (λ n. c .before .before .before .before .before .before .before .before .before .before .before .shared-slice-known2 .given n .fits) (p .0 .0)) (p .0 .3 .few), (firsts-end (a .catalog .now) (a .list .now) _ _ _ _ _ _ _ _ _ _ _ _ _ _ _ _ _ _ _ _ k (omega arith), (widths-end (a .catalog .now) (a .list .now) _ _ _ _ _ _ _ _ _ _ _ _ _ _ _ _ _ _ _ _ k (omega arith), (indexes-end (a .catalog .now) (a .list .now) _ _ _ _ _ _ _ _ _ _ _ _ _ _ _ _ _ _ _ _ k (omega arith), (arrays-end (a .catalog .now) (a .list .now) _ _ _ _ _ _ _ _ _ _ _ _ _ _ _ _ _ _ _ _ k (omega arith), (requests-end (a .catalog .now) (a .list .now) _ _ _ _ _ _ _ _ _ _ _ _ _ _ _ _ _ _ _ _ k (omega arith), (replies-end (a .catalog .now) (a .list .now) _ _ _ _ _ _ _ _ _ _ _ _ _ _ _ _ _ _ _ _ k (omega arith), (owners-end (a .catalog .now) (a .list .now) _ _ _ _ _ _ _ _ _ _ _ _ _ _ _ _ _ _ _ _ k (omega arith), (lengths-end (a .catalog .now) (a .list .now) _ _ _ _ _ _ _ _ _ _ _ _ _ _ _ _ _ _ _ _ k (omega arith), (sizes-end (a .catalog .now) (a .list .now) _ _ _ _ _ _ _ _ _ _ _ _ _ _ _ _ _ _ _ _ k (omega arith)))))))))))
 
