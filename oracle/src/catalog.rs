@@ -44,6 +44,9 @@ pub struct Catalog {
     pub types: Vec<Type>,
 }
 
+/// What the Rust's catalog is made of.
+pub type Parts = (IndexMap<String, plc::Node>, IndexMap<String, plc::TypeDef>);
+
 impl Catalog {
     pub fn read(file: &[u8]) -> Result<Self, String> {
         let mut reader = Reader::versioned(file, LIMIT).map_err(|e| format!("catalog: {e}"))?;
@@ -70,9 +73,15 @@ impl Catalog {
 
     /// The same as the Rust holds it.
     pub fn to_rust(&self) -> plc::Catalog {
+        let (tags, types) = self.parts();
+        plc::Catalog::new(Json::Null, tags, types)
+    }
+
+    /// The tags and the types that the Rust makes its catalog of.
+    pub fn parts(&self) -> Parts {
         let tags = self.tags.iter().map(|t| (t.name.clone(), node(t, false)));
         let types = self.types.iter().map(|t| (t.name.clone(), type_def(t)));
-        plc::Catalog::new(Json::Null, tags.collect(), types.collect())
+        (tags.collect(), types.collect())
     }
 
     pub fn type_named(&self, name: &str) -> Option<&Type> {

@@ -4,6 +4,7 @@ use super::compare;
 use crate::catalog::Catalog;
 use crate::cuts::tests::{dig, sort};
 use crate::library::{CALLS, Library, struct_part};
+use crate::listed::tests::plan;
 use crate::packed::tests::{chunks, packets};
 use crate::planned::tests::plan_chunks;
 use crate::{lookup, names, worst};
@@ -98,6 +99,7 @@ pub(crate) const RIGHT: Library = Library {
     request_size,
     reply_size,
     struct_size,
+    plan,
     chunks,
     packets,
     plan_chunks,
@@ -141,7 +143,7 @@ fn a_write_before_a_refusal_is_found() {
 
 #[test]
 fn a_call_that_the_library_lacks_is_said() {
-    assert!(compare(&RIGHT, "plan", 1, 1).is_err());
+    assert!(compare(&RIGHT, "info", 1, 1).is_err());
 }
 
 #[test]

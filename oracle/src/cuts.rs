@@ -1,35 +1,19 @@
-//! The library's calls over a value with a path and over a plan with results: how their cases are made and damaged, how
-//! the second is called, and what is refused. As for catalogs with plans, a damaged file is told by the refusals that it
-//! may get; only counts that differ are told exactly.
+//! The library's calls over a value with a path and over a plan with results: how their cases are made and damaged, and
+//! what is refused. As for catalogs with plans, a damaged file is told by the refusals that it may get; only counts that
+//! differ are told exactly.
 
 use crate::generate::{plans, values};
-use crate::guard::Lent;
 use crate::kinds::{self, Fields};
-use crate::library::{Refusal, Returned, Told};
+use crate::library::{Refusal, Told};
 use crate::plan::{self, PlannedRead, Step};
 use crate::planned::{self, OF_PLANS};
 use crate::random::Random;
 use crate::results::{self, Outcome};
 use crate::value::{self, LEVELS, LIMIT, Plain};
 
-/// A call that writes its answer: both files and the output a pointer and a length.
-pub type SortCall = unsafe extern "C" fn(*const u8, usize, *const u8, usize, *mut u8, usize) -> u64;
-
 /// The refusals of a value file or a results file, and of a path.
 const OF_VALUES: &[u8] = &[1, 2, 3, 4, 5, 6, 10];
 const OF_PATHS: &[u8] = &[3, 4, 5];
-
-pub fn sort(function: SortCall, fields: &[Vec<u8>], out: &mut Lent<u8>) -> Returned {
-    let plan = Lent::new(&fields[0], 0xd7);
-    let results = Lent::new(&fields[1], 0xd7);
-    let (p, r) = (plan.pointer(), results.pointer());
-    // The pointers and lengths are those of three live vectors that nothing else holds.
-    let returned = unsafe { function(p, plan.len(), r, results.len(), out.pointer_mut(), out.len()) };
-    match plan.untouched() && results.untouched() {
-        true => Ok(returned),
-        false => Err("a file or what stands beside it was changed".to_owned()),
-    }
-}
 
 /// The value is looked at first. A place is one of the input that is refused.
 pub fn dig_refusal(fields: &[Vec<u8>]) -> Option<Refusal> {

@@ -31,6 +31,7 @@ pub mod hand;
 pub mod kinds;
 pub mod library;
 pub mod list;
+pub mod listed;
 pub mod listing;
 pub mod lookup;
 pub mod names;

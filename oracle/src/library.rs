@@ -1,19 +1,22 @@
 //! The exported functions of the port's static library. Each returns one number: the top byte is the refusal's
 //! number, 0 for done, the low 56 bits are what is returned.
 
-use crate::cuts::{self, SortCall};
 use crate::guard::Lent;
 use crate::kinds::Fields;
 use crate::names::LONGEST;
 use crate::packed::{self, ChunksCall, PacketsCall};
 use crate::planned::{self, PlannedCall};
 use crate::random::Random;
+use crate::{cuts, listed};
 
 /// A call with one input and an output, each a pointer and a length.
 pub type NameCall = unsafe extern "C" fn(*const u8, usize, *mut u8, usize) -> u64;
 
 /// A call with two inputs, which answers in the number that it returns.
 pub type LookupCall = unsafe extern "C" fn(*const u8, usize, *const u8, usize) -> u64;
+
+/// A call with two files, which writes its answer.
+pub type FilesCall = unsafe extern "C" fn(*const u8, usize, *const u8, usize, *mut u8, usize) -> u64;
 
 /// A call with a catalog alone.
 pub type CatalogCall = unsafe extern "C" fn(*const u8, usize) -> u64;
@@ -28,11 +31,12 @@ pub struct Library {
     pub request_size: LookupCall,
     pub reply_size: LookupCall,
     pub struct_size: LookupCall,
+    pub plan: FilesCall,
     pub chunks: ChunksCall,
     pub packets: PacketsCall,
     pub plan_chunks: PlannedCall,
     pub dig: LookupCall,
-    pub sort: SortCall,
+    pub sort: FilesCall,
 }
 
 /// What a call returned, or what it changed that it may not change.
@@ -142,6 +146,17 @@ pub const CALLS: &[Call] = &[
         generate: None,
     },
     Call {
+        name: "plan",
+        kind: "plan",
+        part: |answer| answer,
+        call: |library, fields, out| two_files(library.plan, fields, out),
+        writes: true,
+        refusal: listed::refusal,
+        spoil: listed::spoil,
+        spoilt: 30,
+        generate: None,
+    },
+    Call {
         name: "chunks",
         kind: "chunks",
         part: |answer| answer,
@@ -189,7 +204,7 @@ pub const CALLS: &[Call] = &[
         name: "sort",
         kind: "sort",
         part: |answer| answer,
-        call: |library, fields, out| cuts::sort(library.sort, fields, out),
+        call: |library, fields, out| two_files(library.sort, fields, out),
         writes: true,
         refusal: cuts::sort_refusal,
         spoil: cuts::spoil_sort,
@@ -228,6 +243,18 @@ pub fn looked_up(function: LookupCall, fields: &[Vec<u8>]) -> Returned {
     }
 }
 
+pub fn two_files(function: FilesCall, fields: &[Vec<u8>], out: &mut Lent<u8>) -> Returned {
+    let first = Lent::new(&fields[0], 0xd7);
+    let second = Lent::new(&fields[1], 0xd7);
+    let (p, q) = (first.pointer(), second.pointer());
+    // The pointers and lengths are those of three live vectors that nothing else holds.
+    let returned = unsafe { function(p, first.len(), q, second.len(), out.pointer_mut(), out.len()) };
+    match first.untouched() && second.untouched() {
+        true => Ok(returned),
+        false => Err("a file or what stands beside it was changed".to_owned()),
+    }
+}
+
 /// The name is the last input.
 fn too_long(fields: &[Vec<u8>]) -> Option<Refusal> {
     let refusal = Refusal { told: Told::Exactly(5, 0), cause: "refused: a name too long" };
@@ -254,6 +281,7 @@ pub fn linked() -> Result<Library, String> {
         fn ruvangixo_request_size(catalog: *const u8, size: usize, name: *const u8, length: usize) -> u64;
         fn ruvangixo_reply_size(catalog: *const u8, size: usize, name: *const u8, length: usize) -> u64;
         fn ruvangixo_struct_size(catalog: *const u8, size: usize, name: *const u8, length: usize) -> u64;
+        fn ruvangixo_plan(c: *const u8, n: usize, l: *const u8, m: usize, out: *mut u8, room: usize) -> u64;
         fn ruvangixo_chunks(t: *const u64, n: usize, u: *const u64, m: usize, b: u16, out: *mut u8, room: usize)
         -> u64;
         fn ruvangixo_packets(t: *const u64, n: usize, u: *const u64, m: usize, b: u16) -> u64;
@@ -277,6 +305,7 @@ pub fn linked() -> Result<Library, String> {
         request_size: ruvangixo_request_size,
         reply_size: ruvangixo_reply_size,
         struct_size: ruvangixo_struct_size,
+        plan: ruvangixo_plan,
         chunks: ruvangixo_chunks,
         packets: ruvangixo_packets,
         plan_chunks: ruvangixo_plan_chunks,

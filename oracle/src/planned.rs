@@ -14,7 +14,7 @@ use crate::random::Random;
 pub type PlannedCall = unsafe extern "C" fn(*const u8, usize, *const u8, usize, u16, *mut u8, usize) -> u64;
 
 /// The refusals of a catalog and of a plan.
-const OF_CATALOGS: &[u8] = &[1, 2, 3, 4, 5, 6, 7];
+pub const OF_CATALOGS: &[u8] = &[1, 2, 3, 4, 5, 6, 7];
 pub const OF_PLANS: &[u8] = &[1, 2, 3, 4, 5, 8];
 
 pub fn plan_chunks(function: PlannedCall, fields: &[Vec<u8>], out: &mut Lent<u8>) -> Returned {

@@ -19,10 +19,11 @@ pub fn lookup(fields: &[Vec<u8>]) -> Vec<Fields> {
     catalogs(fields).into_iter().chain(names).collect()
 }
 
-/// The list with an entry fewer, or the catalog with a tag, type or member fewer.
+/// The list with an entry fewer, or the catalog with a tag, type or member fewer; where one of them is refused, either
+/// with bytes dropped.
 pub fn plan(fields: &[Vec<u8>]) -> Vec<Fields> {
-    let Ok(list) = List::read(&fields[1]) else {
-        return Vec::new();
+    let (Ok(_), Ok(list)) = (Catalog::read(&fields[0]), List::read(&fields[1])) else {
+        return bytes(fields);
     };
     let tags = dropped(&list.tags).map(|tags| List { tags, ..list.clone() });
     let no_group = dropped(&list.no_group).map(|no_group| List { no_group, ..list.clone() });
