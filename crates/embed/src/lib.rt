@@ -29,6 +29,7 @@ ghost use Rattle.packing.specs.Tables.{sizesOf, tablesVerdict};
 ghost use Rattle.packing.specs.Told.{countedOf};
 ghost use Rattle.queries.specs.Queries.{queryVerdict, measuredOf, wholeOf};
 ghost use Rattle.groups.specs.Groups.{groupsVerdict, planGroups};
+ghost use Rattle.planning.specs.Planning.{planningVerdict, planFile};
 ghost use Rattle.values.specs.Dig.{pathOf, digVerdict, digPlace};
 ghost use Rattle.values.specs.Told.{dugOf};
 ghost use Rattle.results.specs.Sorting.{sortVerdict, sortedFile};
@@ -135,6 +136,16 @@ pub extern "C" fn ruvangixo_struct_size(catalog: &[u8], name: &[u8]) -> u64
         WholeSize::Unknown => 72057594037927935,
         WholeSize::Refused(r) => refusal(r),
     }
+}
+
+// The plan of a list over a catalog, as a plan file. Returned: the bytes written.
+#[no_mangle]
+pub extern "C" fn ruvangixo_plan(catalog: &[u8], list: &[u8], out: &mut [u8]) -> u64
+    ensures answer { λ r. ⌜ r ≡ returned (writing (planningVerdict (now (catalog .entry)) (now (list .entry))) (planFile (now (catalog .entry)) (now (list .entry))) (now (out .entry))) ⌝ }
+    ensures memory { λ r. ⌜ now (out .exit) ≡ buffer (writing (planningVerdict (now (catalog .entry)) (now (list .entry))) (planFile (now (catalog .entry)) (now (list .entry))) (now (out .entry))) (planFile (now (catalog .entry)) (now (list .entry))) (now (out .entry)) ⌝ }
+{
+    let w = planning::plan::plan(catalog, list, out);
+    encode(w)
 }
 
 // The groups of reads of these sizes, packed in order, as a groups file. Returned: the bytes written.

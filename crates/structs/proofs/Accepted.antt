@@ -40,7 +40,7 @@ types-few s =
     let m = limited-max 128 (whole 2 (take 2 (drop (1 + length (take 2 (drop 1 s))) s))) in
     omega arith
 
-markable : (s : List ℕ) → nestingVerdict s ≡ fine → isMarkable (catalogOf s) 128 ≡ true
+pub markable : (s : List ℕ) → nestingVerdict s ≡ fine → isMarkable (catalogOf s) 128 ≡ true
 unfolding isMarkable
 markable s e = rw (le-leb (length (catalogOf s .types)) 128 (types-few s)) (shallow-all (catalogOf s) (catalogOf s .types) (nesting-fine s e))
 

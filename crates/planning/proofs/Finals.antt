@@ -1,0 +1,163 @@
+-- All reads of a plan, told by columns: the bytes that the columns tell are the plan's layout, for every planning that they tell; and the
+-- reads can be written one behind the other.
+-- Assumes nothing.
+use Prim.Native.Nat.{ℕ, _+_, _-_, _≤_}
+use native.Mathlib.Omega.{arith}
+use mathlib.Core.Path.{_≡_, refl, sym, ap, ap₂, subst, _∙_}
+use mathlib.Core.List.{List, [], _∷_, _++_, map}
+use lib.ListN.{length, take, drop, length-append, length-take, length-map}
+use lib.Seq.{take-take, take-append-seam, drop-append-seam}
+use Rattle.fields.specs.Text.{Text}
+use Rattle.fields.specs.Format.{All, leading, many, manyLay, mapped, _then_}
+use Rattle.fields.specs.Fields.{digits, number, numeric, counted}
+use Rattle.fields.specs.Files.{fileLay}
+use Rattle.fields.proofs.Lists.{drop-take, all-weaken}
+use Rattle.names.specs.Pieces.{joined}
+use Rattle.catalog.specs.Catalog.{Catalog}
+use Rattle.packing.specs.declared.Cost.{Cost}
+use Rattle.lists.specs.Lists.{TagList, tagList, tag}
+use Rattle.plans.specs.Plans.{read, layout}
+use Rattle.planner.specs.Lists.{sum}
+use Rattle.planner.specs.Tags.{tagsBehind, tagsOf}
+use Rattle.planner.specs.Merging.{Pending, Given, servedBy}
+use Rattle.planner.specs.Plan.{written, finalReads, givenOf, planOf}
+use Rattle.planner.proofs.Each.{each-both}
+use Rattle.planner.proofs.Shaped.{Shaped, plan-shaped}
+use Rattle.planner.proofs.Leads.{IfStruct, plan-leads}
+use Rattle.planner.proofs.Runs.{IfRun, plan-runs}
+use Rattle.planner.proofs.Listed.{Fair, fair-tags}
+use Rattle.planner.proofs.Bytes.{each-few}
+use Rattle.planner.proofs.Writable.{plan-writable}
+use Rattle.candidates.specs.Columns.{Bunch}
+use Rattle.planning.specs.Tables.{groupBy}
+use Rattle.planning.specs.Writing.{Final, Telling}
+use Rattle.planning.specs.Put.{Columns, columnsOf, toldBytes, ToldFit, Laid, laidBy, readsBytes, planBytes}
+use Rattle.planning.proofs.Told.{Known, ReadTold, read-told}
+
+-- a read that can be written
+abbrev pub Fit : Columns → Laid → Type 0
+Fit t x = ToldFit t (x .kind) (x .serves)
+
+-- ---- rows of numbers
+-- a row that starts with `x`, then `y`
+split-row : (x y ms : List ℕ) → take (length (x ++ y)) ms ≡ x ++ y → (take (length x) ms ≡ x) × (take (length y) (drop (length x) ms) ≡ y)
+split-row x y ms e =
+    let n = length-append x y in
+    let m : length (x ++ y) - length x ≡ length y = omega arith in
+    let d : take (length (x ++ y) - length x) (drop (length x) ms) ≡ y = sym (drop-take (length x) (length (x ++ y)) ms) ∙ ap (drop (length x)) e ∙ drop-append-seam x y in (
+      sym (take-take (length x) (length (x ++ y)) ms (omega arith)) ∙ ap (take (length x)) e ∙ take-append-seam x y,
+      rw m at d,
+    )
+
+sum-served : (rs : List Pending) → sum (map (λ r. length (r .serves)) rs) ≡ length (servedBy rs)
+unfolding sum servedBy joined
+sum-served [] = refl
+sum-served (r ∷ rs) = let a = length-append (r .serves) (servedBy rs) in omega (arith, sum-served rs)
+
+cons-same : {A : Type 0} (x y : A) (xs ys : List A) → x ∷ xs ≡ y ∷ ys → (x ≡ y) × (xs ≡ ys)
+cons-same x y xs ys e = (cc, cc)
+
+-- ---- reads in a row
+module _ (g : Given) (bs : List Bunch) (t : Columns) (tell : (r : Pending) → Known g r → (k : ℕ) → k ≤ length bs → groupBy g bs k ≡ r .group → ReadTold g t k r) where
+  reads-told : (rs : List Pending) (ks ms : List ℕ) → All (Known g) rs → All (λ (k : ℕ). k ≤ length bs) ks → map (groupBy g bs) ks ≡ map (λ r. r .group) rs
+      → take (length (servedBy rs)) ms ≡ servedBy rs
+      → (readsBytes t (laidBy ks (map (λ r. length (r .serves)) rs) ms) ≡ manyLay read (map (written g) rs)) × All (Fit t) (laidBy ks (map (λ r. length (r .serves)) rs) ms)
+  unfolding readsBytes laidBy joined manyLay servedBy
+  reads-told [] [] ms a l e m = (refl, tt)
+  reads-told [] (k ∷ ks) ms a l e m = let z : _≡_ {A = ℕ} 0 1 = cc in absurd (omega arith)
+  reads-told (r ∷ rs) [] ms a l e m = let z : _≡_ {A = ℕ} 0 1 = cc in absurd (omega arith)
+  reads-told (r ∷ rs) (k ∷ ks) ms a l e m =
+      let c = cons-same (groupBy g bs k) (r .group) (map (groupBy g bs) ks) (map (λ x. x .group) rs) e in
+      let s = split-row (r .serves) (servedBy rs) ms m in
+      let h = tell r (a .0) k (l .0) (c .0) in
+      let later = reads-told rs ks (drop (length (r .serves)) ms) (a .1) (l .1) (c .1) (s .1) in
+      (ap₂ _++_ (ap (toldBytes t k) (s .0) ∙ h .bytes) (later .0), (subst (ToldFit t k) (sym (s .0)) (h .fit), later .1))
+
+-- ---- the list
+listed-within : (w : TagList) → tagList .within w → (length (w .tags) ≤ 256) × All (tag .within) (w .tags)
+unfolding tagList mapped _then_ counted leading number numeric many
+listed-within w h = (h .1 .1 .1 .1 .0, h .1 .1 .1 .1 .1 .1)
+
+tags-long : (c : Catalog) (w : TagList) (before ts : List Text) → length (tagsBehind c w before ts) ≡ length ts
+unfolding tagsBehind
+tags-long c w before [] = refl
+tags-long c w before (x ∷ ts) = let h = tags-long c w (before ++ x ∷ []) ts in omega arith
+
+-- ---- what the writer of a plan is told
+pub record Ready (t : Columns) (kinds lens members : List ℕ) (count : ℕ) : Type 0 where
+  pub few : count ≤ 256
+  pub kinded : count ≤ length kinds
+  pub counted : count ≤ length lens
+  pub positions : (sum (take count lens) ≤ length members) × (sum (take count lens) ≤ 256)
+  pub good : All (Fit t) (laidBy (take count kinds) (take count lens) members)
+  pub room : length (planBytes t kinds lens members count) ≤ 65536
+
+module _ (list places indexes spellers spans numbers members lens kinds : List ℕ) (count : ℕ) where
+  abbrev told : Columns
+  told = columnsOf list places indexes spellers spans numbers
+
+  module _ (k : Cost) (c : Catalog) (w : TagList) (bs : List Bunch) (requests replies : List ℕ)
+      (f : Final k c w bs list places indexes spellers spans numbers members lens kinds requests replies count) where
+    abbrev g : Given
+    g = givenOf k c w
+
+    abbrev rs : List Pending
+    rs = finalReads (givenOf k c w)
+
+    tags-fair : All Fair (g .tags)
+    unfolding givenOf tagsOf
+    tags-fair = fair-tags c w [] (w .tags) (listed-within w (f .within) .1)
+
+    few-tags : length (g .tags) ≤ 256
+    unfolding givenOf tagsOf
+    few-tags = let a = tags-long c w [] (w .tags) in let b = listed-within w (f .within) .0 in omega arith
+
+    few-asked : length (g .list .tags) ≤ 256
+    unfolding givenOf
+    few-asked = listed-within w (f .within) .0
+
+    all-known : All (Known g) rs
+    all-known =
+        all-weaken (λ r. Shaped g r × (IfStruct g r × (IfRun g r × (length (r .serves) ≤ 256)))) (Known g) rs
+        (λ r x. record { shaped = x .0; struct = x .1 .0; run = x .1 .1 .0; few = x .1 .1 .1 })
+        (each-both (Shaped g) (λ r. IfStruct g r × (IfRun g r × (length (r .serves) ≤ 256))) rs (plan-shaped k c w)
+        (each-both (IfStruct g) (λ r. IfRun g r × (length (r .serves) ≤ 256)) rs (plan-leads k c w)
+        (each-both (IfRun g) (λ r. length (r .serves) ≤ 256) rs (plan-runs k c w) (each-few 256 rs (f .reading .served)))))
+
+    told-reads : (readsBytes told (laidBy (take count kinds) (take count lens) members) ≡ manyLay read (map (written g) rs)) × All (Fit told) (laidBy (take count kinds) (take count lens) members)
+    told-reads =
+        subst (λ ns. (readsBytes told (laidBy (take count kinds) ns members) ≡ manyLay read (map (written g) rs)) × All (Fit told) (laidBy (take count kinds) ns members))
+        (sym (f .reading .lengths))
+        (reads-told g bs told
+        (λ r h. read-told g list places indexes spellers spans numbers bs (f .named) (f .indexed) (f .spelled) (f .numbered) (f .few) tags-fair few-tags few-asked r h)
+        rs (take count kinds) members all-known (f .kinded .known) (f .kinded .groups) (f .reading .membered))
+
+    -- the bytes that the columns tell are the plan's
+    pub plan-is : planBytes told kinds lens members count ≡ layout (planOf k c w)
+    unfolding planBytes layout fileLay planOf counted leading number numeric many
+    plan-is = ap₂ (λ n x. 1 ∷ (digits 2 n ++ x)) (sym (length-map rs (written g) ∙ f .reading .counted)) (told-reads .0)
+
+    final-ready : Ready told kinds lens members count
+    final-ready =
+        let n = f .reading .counted in
+        let a = ap length (f .kinded .groups) in
+        let a₁ = length-map (take count kinds) (groupBy g bs) in
+        let a₂ = length-map rs (λ r. r .group) in
+        let a₃ = length-take count kinds in
+        let b = ap length (f .reading .lengths) in
+        let b₁ = length-map rs (λ r. length (r .serves)) in
+        let b₂ = length-take count lens in
+        let d = ap length (f .reading .membered) in
+        let d₁ = length-take (length (servedBy rs)) members in
+        let s = ap sum (f .reading .lengths) ∙ sum-served rs in
+        record {
+          few = f .reading .few;
+          kinded = omega arith;
+          counted = omega arith;
+          positions = (omega arith, omega (arith, f .reading .served));
+          good = told-reads .1;
+          room = subst (λ x. length x ≤ 65536) (sym plan-is) (plan-writable k c w (f .within) (f .short) .1);
+        }
+
+  pub ready : Telling list places indexes spellers spans numbers members lens kinds count → Ready told kinds lens members count
+  ready h = final-ready (h .cost) (h .catalog) (h .asked) (h .groups) (h .requests) (h .replies) (h .final)

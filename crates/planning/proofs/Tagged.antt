@@ -1,0 +1,54 @@
+-- The tags of a planning by their positions: the columns of names and of first spellings are as the laws of the groups ask, there are at
+-- most 256 tags, and each is inside the limits of a listed tag.
+-- Assumes nothing.
+use Prim.Native.Nat.{ℕ, _≤_, _<_}
+use native.Mathlib.Omega.{arith}
+use mathlib.Core.Path.{_≡_, refl}
+use mathlib.Core.Bool.{Bool}
+use mathlib.Core.List.{List, [], _++_}
+use lib.ListN.{length}
+use Rattle.fields.specs.Format.{All, leading, many, mapped, _then_}
+use Rattle.fields.specs.Fields.{number, numeric, counted}
+use Rattle.catalog.specs.Catalog.{Catalog}
+use Rattle.packing.specs.declared.Cost.{Cost}
+use Rattle.lists.specs.Lists.{TagList, tagList, tag}
+use Rattle.planner.specs.Rows.{rowsFrom}
+use Rattle.planner.specs.Tags.{tagsOf}
+use Rattle.planner.specs.Merging.{Given, tagAt}
+use Rattle.planner.specs.Plan.{givenOf}
+use Rattle.planner.proofs.Serving.{text-at}
+use Rattle.planner.proofs.Listed.{Fair, fair-tags}
+use Rattle.candidates.specs.Columns.{Bunch, Elements, wholesIn, runsIn}
+use Rattle.candidates.proofs.Told.{Listing, EachAt, Told, tags-told, tags-length}
+use Rattle.candidates.proofs.RunsOf.{Lies}
+use Rattle.planning.specs.Tables.{namesIn}
+use Rattle.planning.specs.Stages.{firstsIn}
+
+module _ (k : Cost) (c : Catalog) (w : TagList) where
+  -- the columns tell the names and the first spellings
+  pub listing : Listing c w (namesIn (givenOf k c w)) (firstsIn (givenOf k c w))
+  unfolding namesIn tagAt givenOf tagsOf
+  listing = record { names = λ p l. text-at c w [] (w .tags) p; firsts = λ p l. refl }
+
+  -- each tag is as they tell
+  pub all-told : EachAt (Told (namesIn (givenOf k c w)) (firstsIn (givenOf k c w))) 0 (tagsOf c w)
+  all-told = tags-told c w (namesIn (givenOf k c w)) (firstsIn (givenOf k c w)) listing
+
+  -- there are as many tags as are listed
+  pub count-tags : length (givenOf k c w .tags) ≡ length (w .tags)
+  unfolding givenOf
+  count-tags = tags-length c w
+
+-- ---- the limits of a list
+
+listed-within : (w : TagList) → tagList .within w → (length (w .tags) ≤ 256) × All (tag .within) (w .tags)
+unfolding tagList mapped _then_ counted leading number numeric many
+listed-within w h = (h .1 .1 .1 .1 .0, h .1 .1 .1 .1 .1 .1)
+
+module _ (k : Cost) (c : Catalog) (w : TagList) (h : tagList .within w) where
+  pub few-tags : length (givenOf k c w .tags) ≤ 256
+  few-tags = omega (arith, count-tags k c w, listed-within w h .0)
+
+  pub all-fair : All Fair (givenOf k c w .tags)
+  unfolding givenOf tagsOf
+  all-fair = fair-tags c w [] (w .tags) (listed-within w h .1)

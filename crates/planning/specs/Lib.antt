@@ -1,0 +1,10 @@
+pub mod Tables
+pub mod Merges
+pub mod Choosing
+pub mod Turns
+pub mod Entering
+pub mod Binding
+pub mod Writing
+pub mod Put
+pub mod Planning
+pub mod Stages
