@@ -20,8 +20,6 @@ use plans::place::read_past;
 use plans::place::reads_start;
 use plans::place::step_past;
 use queries::check_catalog;
-ghost use Prim.Native.Nat.{_≤_};
-ghost use lib.ListN.{length};
 
 // Prints a text.
 fn say(t: &[u8]) {
@@ -56,15 +54,16 @@ fn print_refusal(kind: &[u8], r: Refusal) {
     say(b"\n");
 }
 
-// Reads the file of a path into a buffer; how many bytes it has, 0 where it cannot be read. A longer file fills the buffer, which is longer
-// than any file that is accepted.
-fn read_path(path: &[u8], buf: &mut [u8]) -> usize
-    ensures { λ r. ⌜ r ≤ length (now (buf .exit)) ⌝ }
-{
+// What is told of a file that cannot be read: more bytes than a buffer here has.
+const UNREADABLE: usize = 1000000;
+
+// Reads the file of a path into a buffer; how many bytes it has. A longer file fills the buffer, which is longer than any file that is
+// accepted.
+fn read_path(path: &[u8], buf: &mut [u8]) -> usize {
     let fd = os::open_read(path);
     if fd < 0 {
         os::fail(path);
-        return 0;
+        return UNREADABLE;
     }
     let n = io::read_full(fd, buf);
     libc::close(fd);
@@ -72,9 +71,7 @@ fn read_path(path: &[u8], buf: &mut [u8]) -> usize
 }
 
 // Reads the file that is named as an argument, or another where none is.
-fn read_file(argument: usize, other: &[u8], buf: &mut [u8]) -> usize
-    ensures { λ r. ⌜ r ≤ length (now (buf .exit)) ⌝ }
-{
+fn read_file(argument: usize, other: &[u8], buf: &mut [u8]) -> usize {
     let mut path = io::buffer();
     let n = os::arg(argument, &mut path);
     if n == 0 {
@@ -234,7 +231,7 @@ fn show(catalog: &[u8], list: &[u8]) {
     }
 }
 
-// The same of two files at the fronts of buffers, with so many bytes each.
+// The same of two files at the fronts of buffers, with so many bytes each; nothing where one of them could not be read.
 fn show_fronts(catalog: &[u8], n: usize, list: &[u8], m: usize) {
     if catalog.len() < n {
         return;
@@ -250,11 +247,5 @@ fn main() {
     let mut list = [0; 16385];
     let n = read_file(1, b"examples/motor.catalog", &mut catalog);
     let m = read_file(2, b"examples/motor.list", &mut list);
-    if n == 0 {
-        return;
-    }
-    if m == 0 {
-        return;
-    }
     show_fronts(&catalog, n, &list, m);
 }

@@ -27,6 +27,7 @@ use nodes::place::node_past;
 use packing::Counted;
 use packing::chunk::chunks;
 use packing::table::packets;
+use planning::plan::plan;
 use plans::check::check_plan;
 use plans::place::member_past;
 use plans::place::read_count;
@@ -54,11 +55,11 @@ struct Tally {
     differences: u64,
 }
 
-// 262,144 zeros: room for a file of cases.
-fn space() -> [u8; 262144]
-    ensures { λ r. ⌜ 262144 ≡ length r ⌝ }
+// 655,360 zeros: room for a file of cases.
+fn space() -> [u8; 655360]
+    ensures { λ r. ⌜ 655360 ≡ length r ⌝ }
 {
-    [0; 262144]
+    [0; 655360]
 }
 
 // One case more.
@@ -249,6 +250,7 @@ fn made(call: Call, first: &[u8], second: &[u8], third: &[u8], out: &mut [u8]) -
         Call::Chunks => put_chunks(first, second, third, out),
         Call::Packets => put_packets(first, second, third, out),
         Call::PlanChunks => put_plan_chunks(first, second, third, out),
+        Call::Plan => plan(first, second, out),
         Call::DamagedLists => Written::Done(put_verdict(check_list(first), out)),
         Call::DamagedPlans => Written::Done(put_verdict(check_plan(first), out)),
         Call::DamagedValues => Written::Done(put_verdict(check_value_file(first), out)),
@@ -271,6 +273,7 @@ fn wants_catalog(call: Call) -> bool {
         Call::Chunks => false,
         Call::Packets => false,
         Call::PlanChunks => false,
+        Call::Plan => false,
         Call::DamagedLists => false,
         Call::DamagedPlans => false,
         Call::DamagedValues => false,
@@ -536,7 +539,7 @@ fn run(call: Call, path: &[u8]) {
     }
     let n = io::read_full(fd, &mut buf);
     libc::close(fd);
-    if n == 262144 {
+    if n == 655360 {
         io::write_all(STDOUT_FILENO, b"longer than the buffer: ");
     }
     print(path, replay(call, &buf[..n]));
@@ -552,6 +555,7 @@ fn main() {
     run(Call::Chunks, b"chunks.cases");
     run(Call::Packets, b"packets.cases");
     run(Call::PlanChunks, b"plan_chunks.cases");
+    run(Call::Plan, b"plan.cases");
     run(Call::DamagedLists, b"damaged_lists.cases");
     run(Call::DamagedPlans, b"damaged_plans.cases");
     run(Call::DamagedValues, b"damaged_values.cases");
