@@ -1,4 +1,4 @@
-// The columns after a merge.
+// The positions of the reads after a merge.
 ghost use mathlib.Core.Path.{_≡_};
 ghost use mathlib.Core.Bool.{false};
 ghost use Prim.Native.Nat.{_+_, _≤_};
@@ -6,7 +6,7 @@ ghost use lib.ListN.{length, take, drop};
 ghost use Rattle.fields.specs.Writing.{patch, answered};
 ghost use Rattle.names.specs.Pieces.{joined};
 ghost use Rattle.planner.specs.Lists.{sum};
-ghost use Rattle.merging.specs.Columns.{flagged, closed, readsIn, regrouped};
+ghost use Rattle.merging.specs.Columns.{flagged, readsIn, regrouped};
 ghost use Rattle.merging.specs.Told.{kindsOf, ofKind};
 
 // Puts so many of the positions from a place on at a place; the place past them.
@@ -126,68 +126,4 @@ pub fn total_members(lens: &[u16; 256], covered: &[u8; 256], count: usize) -> us
         i += 1;
     }
     n
-}
-
-// A column with the flagged reads as one, of which the number is x; how many reads there are then.
-pub fn close16(column: &mut [u16; 256], covered: &[u8; 256], count: usize, x: u16) -> usize
-    ensures count { λ r. ⌜ (r ≡ length (closed (take count (now (covered .entry))) x (now (column .entry)))) × (r ≤ 256) ⌝ }
-    ensures column { λ r. ⌜ now (column .exit) ≡ answered (closed (take count (now (covered .entry))) x (now (column .entry))) (now (column .entry)) ⌝ }
-{
-    let flags = &covered[..];
-    let out = &mut column[..];
-    let mut seen = false;
-    let mut r = 0;
-    let mut i = 0;
-    while i < count {
-        if 256 <= i {
-            return r;
-        }
-        if flags[i] != 1 {
-            out[r] = out[i];
-            r += 1;
-            i += 1;
-            continue;
-        }
-        if seen {
-            i += 1;
-            continue;
-        }
-        out[r] = x;
-        r += 1;
-        seen = true;
-        i += 1;
-    }
-    r
-}
-
-// The same of a column of longer numbers.
-pub fn close64(column: &mut [u64; 256], covered: &[u8; 256], count: usize, x: u64) -> usize
-    ensures count { λ r. ⌜ (r ≡ length (closed (take count (now (covered .entry))) x (now (column .entry)))) × (r ≤ 256) ⌝ }
-    ensures column { λ r. ⌜ now (column .exit) ≡ answered (closed (take count (now (covered .entry))) x (now (column .entry))) (now (column .entry)) ⌝ }
-{
-    let flags = &covered[..];
-    let out = &mut column[..];
-    let mut seen = false;
-    let mut r = 0;
-    let mut i = 0;
-    while i < count {
-        if 256 <= i {
-            return r;
-        }
-        if flags[i] != 1 {
-            out[r] = out[i];
-            r += 1;
-            i += 1;
-            continue;
-        }
-        if seen {
-            i += 1;
-            continue;
-        }
-        out[r] = x;
-        r += 1;
-        seen = true;
-        i += 1;
-    }
-    r
 }

@@ -188,13 +188,3 @@ module _ (k : Cost) (c : Catalog) (w : TagList) (nm : ℕ → Text) (first : ℕ
   runs-agree e =
       let g = givenOf k c w in
       runs-same nm (namesIn g) first (firstsIn g) (length (tagsOf c w)) listings-agree e (k .«bytes_per_read»)
-
-  -- THEOREM: what a function gives for the name of each group
-  pub names-agree : (f : Text → ℕ) (bs : List Bunch) → All (Below (length (tagsOf c w))) bs
-      → map (λ b. f (bunchName nm b)) bs ≡ map (λ b. f (bunchName (namesIn (givenOf k c w)) b)) bs
-  unfolding bunchName
-  names-agree f bs l =
-      let nm′ = namesIn (givenOf k c w) in
-      map-agree (λ b. f (bunchName nm b)) (λ b. f (bunchName nm′ b)) bs
-      (all-weaken (Below (length (tagsOf c w))) (λ b. f (bunchName nm b) ≡ f (bunchName nm′ b)) bs
-      (λ b s. ap (λ t. f (take (b .end) t)) (listings-agree .names (b .tag) (s .tag))) l)

@@ -134,10 +134,6 @@ module _ (g : Given) (bs : List Bunch) (level : ℕ) (levels : List ℕ) (struct
   unfoldable pub leftOn : ℕ → List Group
   leftOn j = map (groupOf (namesIn g)) (leveled level (drop j (take structs levels)) (drop j (take structs bs)))
 
-  on-all : leftOn 0 ≡ map (groupOf (namesIn g)) (leveled level (take structs levels) (take structs bs))
-  unfolding leftOn
-  on-all = refl
-
   on-end : (j : ℕ) → structs ≤ j → leftOn j ≡ []
   unfolding leftOn leveled
   on-end j h = rw (one-past levels structs j h)

@@ -10,7 +10,7 @@ use Rattle.fields.specs.Text.{Text}
 use Rattle.fields.specs.Places.{part}
 use Rattle.fields.specs.Writing.{patch}
 use Rattle.fields.proofs.Lists.{part-first}
-use Rattle.planning.specs.Put.{textThere, namesBy, numbersBy, columnsOf, plainBytes, structBytes, runBytes, readBytes, StructFit, RunFit, ReadFit, groupName, toldBytes, ToldFit}
+use Rattle.planning.specs.Put.{textThere, namesBy, numbersBy, columnsOf, plainBytes, structBytes, runBytes, readBytes, StructFit, RunFit, ReadFit, Laid, toldBytes, ToldFit}
 
 -- a part that has a position
 pub part-some : (ms : List ℕ) (from to : ℕ) → 1 ≤ length (part from to ms) → (from < to) × (from < length ms)
@@ -70,18 +70,17 @@ module _ (list places : List ℕ) (ix : ℕ → ℕ) (t : Text) (n kind : ℕ) (
           → (from < to) × (to ≤ length ms) × RunFit nm ix t ps × (at + length (runBytes nm ix t ps) ≤ m)
       run-asks at m l h = let s = part-some ms from to (fit .some) in (s .0, l, fit .run z o, rw run-is at h)
 
--- ---- the group of a kind: `j` is its place in the columns
-pub group-told : (places spellers spans numbers : List ℕ) (kind j : ℕ) → j ≡ kind - 1
-    → (getD places (getD spellers j 0) 0 ≡ getD places (getD spellers (kind - 1) 0) 0) × (getD spans j 0 ≡ getD spans (kind - 1) 0) × (getD numbers j 0 ≡ getD numbers (kind - 1) 0)
-group-told places spellers spans numbers kind j e = rw e (refl, refl, refl)
+-- ---- the number of the group of a kind: `j` is its place in the columns
+pub number-told : (numbers : List ℕ) (kind j : ℕ) → j ≡ kind - 1 → getD numbers j 0 ≡ numbersBy numbers (kind - 1)
+unfolding numbersBy
+number-told numbers kind j e = ap (λ x. getD numbers x 0) e
 
--- ---- the read that columns tell: `a`, `e` and `n` are what they say of its group
-module _ (list places indexes spellers spans numbers : List ℕ) (kind : ℕ) (ps : List ℕ) (a e n : ℕ)
-    (q : (a ≡ getD places (getD spellers (kind - 1) 0) 0) × (e ≡ getD spans (kind - 1) 0) × (n ≡ getD numbers (kind - 1) 0)) where
-  pub told-is : toldBytes (columnsOf list places indexes spellers spans numbers) kind ps ≡ readBytes (namesBy list places) (numbersBy indexes) (take e (textThere list a)) n kind ps
-  unfolding toldBytes groupName columnsOf namesBy numbersBy
-  told-is = rw (q .0, q .1, q .2)
+-- ---- the read that columns and a row tell: `n` is what they say of its group's number
+module _ (list places indexes numbers : List ℕ) (x : Laid) (n : ℕ) (q : n ≡ numbersBy numbers (x .kind - 1)) where
+  pub told-is : toldBytes (columnsOf list places indexes numbers) x ≡ readBytes (namesBy list places) (numbersBy indexes) (x .text) n (x .kind) (x .serves)
+  unfolding toldBytes columnsOf
+  told-is = rw q
 
-  pub told-fit : ToldFit (columnsOf list places indexes spellers spans numbers) kind ps → ReadFit (namesBy list places) (numbersBy indexes) (take e (textThere list a)) n kind ps
-  unfolding groupName columnsOf namesBy numbersBy
-  told-fit f = rw (q .0, q .1, q .2) (f .fit)
+  pub told-fit : ToldFit (columnsOf list places indexes numbers) x → ReadFit (namesBy list places) (numbersBy indexes) (x .text) n (x .kind) (x .serves)
+  unfolding columnsOf
+  told-fit f = rw q (f .fit)

@@ -11,16 +11,12 @@ use borrow.Author.Tests.{le-ltb}
 use Rattle.fields.specs.Text.{Text}
 use Rattle.fields.specs.Fields.{text}
 use Rattle.fields.specs.Format.{All}
-use Rattle.fields.specs.Places.{part, textPart, valueAt}
+use Rattle.fields.specs.Places.{part, textPart}
 use Rattle.fields.specs.Writing.{patch, answered}
 use Rattle.fields.specs.declared.Part.{Part}
 use Rattle.fields.proofs.Lists.{part-length}
-use Rattle.fields.proofs.Checks.{part-text}
-use Rattle.catalog.specs.Alike.{nameAt}
 use Rattle.plans.specs.Access.{readHead, memberBytes}
 use Rattle.plans.proofs.Writes.{length-head, length-member}
-use Rattle.candidates.specs.Columns.{prefixPart}
-use Rattle.candidates.proofs.Prefixes.{prefix-text}
 use Rattle.planning.specs.Choosing.{runName}
 use Rattle.planning.specs.Put.{textThere, pathBytes, indexPath, Walkable, underBytes, elementBytes, rowBytes, underIn, elementIn, UnderFit, ElementFit, startIn, spanIn, plainBytes, structBytes, runBytes, StructFit, RunFit}
 use Rattle.planning.proofs.Putting.{answer-front, put-behind, room-behind}
@@ -42,18 +38,6 @@ module _ (list : List ℕ) (place : ℕ) (t : Part) (e : t ≡ textPart list pla
 
   pub there-long : t .start ≤ t .end → t .end ≤ length list → t .end - t .start ≡ length (textThere list place)
   there-long h l = let a = part-length list (t .start) (t .end) h l in let b = ap length there in omega arith
-
--- the first bytes of such a name
-module _ (list : List ℕ) (place n : ℕ) (t : Part) (e : t ≡ prefixPart list place n) where
-  pub prefix-there : part (t .start) (t .end) list ≡ take n (textThere list place)
-  unfolding textThere nameAt valueAt text
-  prefix-there = prefix-text list place n t e ∙ ap (take n) (sym (part-text list place (textPart list place) refl))
-
-  pub prefix-short : (m : ℕ) → length (take n (textThere list place)) ≤ m → length (part (t .start) (t .end) list) ≤ m
-  prefix-short m h = let b = ap length prefix-there in omega arith
-
-  pub prefix-long : t .start ≤ t .end → t .end ≤ length list → t .end - t .start ≡ length (take n (textThere list place))
-  prefix-long h l = let a = part-length list (t .start) (t .end) h l in let b = ap length prefix-there in omega arith
 
 -- what is put of a text that is not too long
 short-put : (t old out x : List ℕ) (at : ℕ) → length t ≤ 255 → out ≡ cond (ltb 255 (length t)) old (patch old at x) → out ≡ patch old at x

@@ -18,6 +18,7 @@ pub mod Weighing
 pub mod Applying
 pub mod Looking
 pub mod Turning
+pub mod Tabled
 pub mod Settling
 pub mod Columnwise
 pub mod Reckoned
@@ -35,6 +36,7 @@ pub mod Choosing
 pub mod Tails
 pub mod Laying
 pub mod Told
+pub mod Wording
 pub mod Finals
 pub mod Filing
 pub mod Stages

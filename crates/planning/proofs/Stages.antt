@@ -5,13 +5,13 @@ use Prim.Native.Nat.{ℕ, zero, suc, _+_, _-_, _≤_, _<_}
 use native.Mathlib.Omega.{arith}
 use mathlib.Core.Path.{_≡_, refl, sym, ap, ap₂, subst, _∙_}
 use mathlib.Core.List.{List, [], _∷_, _++_, map}
-use lib.ListN.{length, take, drop, length-append, length-map, replicate}
+use lib.ListN.{length, take, drop, length-append, length-map, length-take, replicate}
 use lib.Seq.{take-append-seam, drop-append-seam}
 use Rattle.fields.specs.Format.{All}
 use Rattle.fields.specs.Writing.{answered}
 use Rattle.fields.proofs.Lists.{all-weaken}
 use Rattle.catalog.specs.Catalog.{Catalog, catalogOf}
-use Rattle.sizes.specs.Sizes.{Size}
+use Rattle.sizes.specs.Sizes.{Size, readSize}
 use Rattle.packing.specs.declared.Cost.{Cost}
 use Rattle.packing.specs.Packing.{standard, empty}
 use Rattle.packing.specs.Tables.{sizesOf}
@@ -25,17 +25,22 @@ use Rattle.planner.specs.Plan.{plainReads, togetherGroups, candidates, startRea
 use Rattle.planner.proofs.Each.{each-map}
 use Rattle.planner.proofs.Writable.{plan-writable}
 use Rattle.candidates.specs.Columns.{Bunch, Elements, positions, bunchName, groupOf}
-use Rattle.merging.specs.Columns.{closed, largestSize}
-use Rattle.planning.specs.Tables.{namesIn, Sound, Reading, Kinded}
+use Rattle.merging.specs.Columns.{listed, closed, largestSize}
+use Rattle.pending.specs.declared.Pending.{Pending as Row}
+use Rattle.pending.specs.declared.Reads.{Reads}
+use Rattle.planning.specs.Tables.{namesIn, lensIn, kindsIn, requestsIn, repliesIn, Sound, Reading, Kinded}
+use Rattle.planning.specs.Choosing.{RowsNamed, NamesKept}
 use Rattle.planning.specs.Merges.{livingOf, Settled, bindingOf, BoundTold, isChoice, AskTold}
 use Rattle.planning.specs.Entering.{Allowed}
 use Rattle.planning.specs.Writing.{Final, Telling, PlanWritten}
 use Rattle.planning.specs.Planning.{planFile}
-use Rattle.planning.specs.Stages.{structsIn, runsAmong, bunchesIn, planningOf, Viewed, Bunched, Grouping, SettledTold, MergedTold, Planned}
+use Rattle.planning.specs.Stages.{structsIn, runsAmong, bunchesIn, planningOf, Viewed, Bunched, Grouping, SettledTold, MergedTold, Planned, packetsIn}
 use Rattle.planning.proofs.Flagging.{sizes-are}
 use Rattle.planning.proofs.Soundness.{groups-sound}
 use Rattle.planning.proofs.Tagged.{few-tags}
-use Rattle.planning.proofs.Starting.{take-replicate, starts-reading, starts-kinded}
+use Rattle.planning.proofs.Starting.{take-replicate, rowAt, rows-lens, rows-kinds, rows-requests, rows-replies, rows-named, starts-reading, starts-kinded}
+use Rattle.planning.proofs.Tabled.{map-front}
+use Rattle.planning.proofs.Wording.{rows-worded}
 use Rattle.planning.proofs.Bindings.{bindings-are}
 use Rattle.planning.proofs.Choices.{choices-are}
 
@@ -75,21 +80,28 @@ module _ (catalog list places indexes requests replies : List ℕ) (tags : ℕ) 
   }
 
   -- THEOREM: and the plain reads
-  pub plain-reading : (members lens : List ℕ) → take tags members ≡ positions 0 tags → take tags lens ≡ replicate tags 1
-      → Reading (plainReads given) members lens requests replies tags
-  plain-reading members lens m l =
-      let c = v .counted in
-      subst (Reading (plainReads given) members lens requests replies) (sym c)
-      (starts-reading standard catalog (listOf list) (v .accepted .within) members lens requests replies
-      (subst (λ n. take n members ≡ positions 0 n) c m) (subst (λ n. take n lens ≡ replicate n 1) c l)
-      (ap (λ n. take n requests) (sym c) ∙ v .requested) (ap (λ n. take n replies) (sym c) ∙ v .replied))
+  module _ (table : List Row) (rows : take tags table ≡ listed (rowAt requests replies) 0 tags) where
+    pub plain-reading : (members : List ℕ) → take tags members ≡ positions 0 tags → Reading (plainReads given) members (lensIn table) (requestsIn table) (repliesIn table) tags
+    plain-reading members m =
+        let c = v .counted in
+        let a = ap length (v .requested) in
+        let a₁ = length-take tags requests in
+        let a₂ = length-map (given .tags) (λ t. readSize (catalogOf catalog) (t .text) .request) in
+        let b = ap length (v .replied) in
+        let b₁ = length-take tags replies in
+        let b₂ = length-map (given .tags) (λ t. readSize (catalogOf catalog) (t .text) .reply) in
+        let q : take tags (requestsIn table) ≡ take tags requests = rows-requests requests replies table tags rows (omega arith) in
+        let p : take tags (repliesIn table) ≡ take tags replies = rows-replies requests replies table tags rows (omega arith) in
+        subst (Reading (plainReads given) members (lensIn table) (requestsIn table) (repliesIn table)) (sym c)
+        (starts-reading standard catalog (listOf list) (v .accepted .within) members (lensIn table) (requestsIn table) (repliesIn table)
+        (subst (λ n. take n members ≡ positions 0 n) c m) (subst (λ n. take n (lensIn table) ≡ replicate n 1) c (rows-lens requests replies table tags rows))
+        (ap (λ n. take n (requestsIn table)) (sym c) ∙ q ∙ v .requested) (ap (λ n. take n (repliesIn table)) (sym c) ∙ p ∙ v .replied))
 
-  pub plain-kinded : (kinds : List ℕ) (zeros : ℕ) → kinds ≡ replicate zeros 0 → 256 ≤ zeros → Kinded given told (plainReads given) kinds tags
-  plain-kinded kinds zeros e l =
-      let n = few-tags standard (catalogOf catalog) (listOf list) (v .accepted .within) in
-      subst (Kinded given told (plainReads given) kinds) (sym (v .counted))
-      (starts-kinded standard (catalogOf catalog) (listOf list) told kinds
-      (ap (take (length (given .tags))) e ∙ take-replicate (length (given .tags)) zeros 0 (omega arith)))
+    pub plain-kinded : Kinded given told (plainReads given) (kindsIn table) tags
+    plain-kinded =
+        subst (Kinded given told (plainReads given) (kindsIn table)) (sym (v .counted))
+        (starts-kinded standard (catalogOf catalog) (listOf list) told (kindsIn table)
+        (subst (λ n. take n (kindsIn table) ≡ replicate n 0) (v .counted) (rows-kinds requests replies table tags rows)))
 
 -- ---- merges
 
@@ -178,40 +190,43 @@ module _ (c : Catalog) (e : Elements) (list places indexes spellers spans number
 module _ (catalog list places indexes requests₀ replies₀ : List ℕ) (tags : ℕ) (v : Viewed catalog list places indexes requests₀ replies₀ tags)
     (e : Elements) (spellers spans numbers weights asks stops serves : List ℕ) (structs groups : ℕ)
     (q : Grouping (catalogOf catalog) e list places indexes spellers spans numbers weights asks stops serves structs groups)
-    (members lens kinds requests replies : List ℕ) (count : ℕ)
-    (x : Reading (finalReads (planningOf catalog list)) members lens requests replies count)
-    (y : Kinded (planningOf catalog list) (bunchesIn (planningOf catalog list) e) (finalReads (planningOf catalog list)) kinds count) where
-  final-reads : Final standard (catalogOf catalog) (listOf list) (bunchesIn (planningOf catalog list) e) list places indexes spellers spans numbers members lens kinds requests replies count
+    (members : List ℕ) (reads : Reads)
+    (x : Reading (finalReads (planningOf catalog list)) members (lensIn (reads .table)) (requestsIn (reads .table)) (repliesIn (reads .table)) (reads .count))
+    (y : Kinded (planningOf catalog list) (bunchesIn (planningOf catalog list) e) (finalReads (planningOf catalog list)) (kindsIn (reads .table)) (reads .count))
+    (z : RowsNamed list places spellers spans reads) where
+  final-reads : Final standard (catalogOf catalog) (listOf list) (bunchesIn (planningOf catalog list) e) list places indexes numbers members (reads .table) (requestsIn (reads .table)) (repliesIn (reads .table)) (reads .count)
   final-reads = record {
     within = v .accepted .within;
     short = v .accepted .laid;
     named = v .named;
     indexed = v .indexed;
     few = q .lookup .grouped .few;
-    spelled = q .lookup .spelled;
     numbered = q .lookup .grouped .numbered;
     reading = x;
     kinded = y;
+    worded =
+        rows-worded (planningOf catalog list) (bunchesIn (planningOf catalog list) e) list places spellers spans (v .named) (q .lookup .spelled) (omega (arith, v .accepted .long)) (take (reads .count) (reads .table)) z
+        (subst (All (λ (k : ℕ). k ≤ length (bunchesIn (planningOf catalog list) e))) (sym (map-front (λ p. p .group) (reads .count) (reads .table))) (y .known));
   }
 
-  -- THEOREM: the columns tell the last reads of the planning
-  pub plan-telling : Telling list places indexes spellers spans numbers members lens kinds count
+  -- THEOREM: the columns and the table tell the last reads of the planning
+  pub plan-telling : Telling list places indexes numbers members (reads .table) (reads .count)
   plan-telling = record {
     cost = standard;
     catalog = catalogOf catalog;
     asked = listOf list;
     groups = bunchesIn (planningOf catalog list) e;
-    requests = requests;
-    replies = replies;
+    requests = requestsIn (reads .table);
+    replies = repliesIn (reads .table);
     final = final-reads;
   }
 
   -- THEOREM: what is written is the plan file
-  pub plan-written : (file file′ : List ℕ) (r : ℕ) → PlanWritten list places indexes spellers spans numbers members lens kinds count file file′ r
+  pub plan-written : (file file′ : List ℕ) (r : ℕ) → PlanWritten list places indexes numbers members (reads .table) (reads .count) file file′ r
       → Planned catalog list file file′ r
   unfolding planFile
   plan-written file file′ r t =
-      let w = t standard (catalogOf catalog) (listOf list) (bunchesIn (planningOf catalog list) e) requests replies final-reads in
+      let w = t standard (catalogOf catalog) (listOf list) (bunchesIn (planningOf catalog list) e) (requestsIn (reads .table)) (repliesIn (reads .table)) final-reads in
       let l = plan-writable standard (catalogOf catalog) (listOf list) (v .accepted .within) (v .accepted .laid) .1 in
       (w .0, omega (arith, w .0), w .1)
 
@@ -229,17 +244,28 @@ room-left k b = refl
 pub room-is : (list : List ℕ) (b room : ℕ) → b ≡ listOf list .budget → room ≡ b - empty standard .reply → room ≡ listOf list .budget - empty standard .reply
 room-is list b room e f = f ∙ ap (λ n. n - empty standard .reply) e
 
-module _ (list places indexes spellers spans numbers weights asks stops serves : List ℕ) (structs groups : ℕ) (members lens kinds requests replies : List ℕ) (count : ℕ) where
-  -- the rounds of merges
-  pub settle-told : (alive : List ℕ) (budget limit : ℕ) (z : Size) (members′ lens′ kinds′ requests′ replies′ : List ℕ) (r : ℕ) → budget ≡ listOf list .budget
-      → limit ≡ stepsOf standard budget (started budget) (closed (take count (replicate 256 0)) z (sizesOf requests replies)) .packets
-      → Allowed list places spans weights stops serves structs groups alive
-      → Settled standard list places indexes spellers spans numbers weights asks stops serves alive groups limit members lens kinds requests replies count members′ lens′ kinds′ requests′ replies′ r
-      → SettledTold list places indexes spellers spans numbers weights asks stops serves structs groups members lens kinds requests replies count members′ lens′ kinds′ requests′ replies′ r
-  settle-told alive budget limit z members′ lens′ kinds′ requests′ replies′ r b e a s =
-      λ c d q x y. reads-settled c d list places indexes spellers spans numbers weights asks stops serves structs groups q
-      members lens kinds requests replies count members′ lens′ kinds′ requests′ replies′ r x y alive (replicate 256 0) 256 budget limit z refl (omega arith) b e a s
+-- the packets of the reads of a table
+pub packets-told : (cost : Cost) (list : List ℕ) (b : ℕ) (table : List Row) (count : ℕ) (requests replies : List ℕ) (r : ℕ) → b ≡ listOf list .budget → requests ≡ requestsIn table → replies ≡ repliesIn table
+    → r ≡ stepsOf cost b (started b) (closed (take count (replicate 256 0)) (record { request = 0; reply = 0 }) (sizesOf requests replies)) .packets
+    → r ≡ packetsIn cost (listOf list .budget) table count
+unfolding packetsIn
+packets-told cost list b table count requests replies r e q p t = rw (e, q, p) at t
 
+module _ (list places indexes spellers spans numbers weights asks stops serves : List ℕ) (structs groups : ℕ) (members : List ℕ) (table : List Row) (count : ℕ) where
+  -- the rounds of merges
+  pub settle-told : (alive : List ℕ) (limit : ℕ) (members′ lens′ kinds′ requests′ replies′ : List ℕ) (r : ℕ) → limit ≡ packetsIn standard (listOf list .budget) table count
+      → Allowed list places spans weights stops serves structs groups alive
+      → Settled standard list places indexes spellers spans numbers weights asks stops serves alive groups limit members (lensIn table) (kindsIn table) (requestsIn table) (repliesIn table) count
+      members′ lens′ kinds′ requests′ replies′ r
+      → SettledTold list places indexes spellers spans numbers weights asks stops serves structs groups members (lensIn table) (kindsIn table) (requestsIn table) (repliesIn table) count
+      members′ lens′ kinds′ requests′ replies′ r
+  unfolding packetsIn
+  settle-told alive limit members′ lens′ kinds′ requests′ replies′ r e a s =
+      λ c d q x y. reads-settled c d list places indexes spellers spans numbers weights asks stops serves structs groups q
+      members (lensIn table) (kindsIn table) (requestsIn table) (repliesIn table) count members′ lens′ kinds′ requests′ replies′ r x y
+      alive (replicate 256 0) 256 (listOf list .budget) limit (record { request = 0; reply = 0 }) refl (omega arith) refl e a s
+
+module _ (list places indexes spellers spans numbers weights asks stops serves : List ℕ) (structs groups : ℕ) (members lens kinds requests replies : List ℕ) (count : ℕ) where
   -- all merges
   pub merge-told : (members₁ lens₁ kinds₁ requests₁ replies₁ : List ℕ) (n : ℕ) (members′ lens′ kinds′ requests′ replies′ : List ℕ) (r : ℕ)
       → BoundTold standard list places indexes spellers spans numbers weights asks stops serves structs members lens kinds requests replies count members₁ lens₁ kinds₁ requests₁ replies₁ n
@@ -264,25 +290,30 @@ module _ (catalog list places indexes requests replies : List ℕ) (tags : ℕ) 
       let l = length-append (structsIn g) (runsAmong g (b .elements)) in
       (omega (arith, b .structs-are, b .groups-are, b .few), b .few)
 
-  module _ (asks members lens members′ lens′ kinds′ requests′ replies′ : List ℕ) (n : ℕ) (a : AskTold catalog list places spellers spans groups asks)
-      (p : (take tags members ≡ positions 0 tags) × (take tags lens ≡ replicate tags 1))
-      (m : MergedTold list places indexes spellers spans numbers weights asks stops serves structs groups members lens (replicate 256 0) requests replies tags members′ lens′ kinds′ requests′ replies′ n) where
+  module _ (asks members : List ℕ) (table : List Row) (members′ : List ℕ) (r : Reads) (a : AskTold catalog list places spellers spans groups asks)
+      (p : (take tags members ≡ positions 0 tags) × (take tags table ≡ listed (rowAt requests replies) 0 tags))
+      (m : MergedTold list places indexes spellers spans numbers weights asks stops serves structs groups members (lensIn table) (kindsIn table) (requestsIn table) (repliesIn table) tags
+      members′ (lensIn (r .table)) (kindsIn (r .table)) (requestsIn (r .table)) (repliesIn (r .table)) (r .count))
+      (k : NamesKept list places spellers spans (record { table = table; count = tags }) r) where
     grouping : Grouping (catalogOf catalog) (b .elements) list places indexes spellers spans numbers weights asks stops serves structs groups
     grouping = groups-grouped catalog list places indexes requests replies tags v spellers spans numbers weights stops serves structs groups b asks a
 
     last-reads : let g = planningOf catalog list in
-        Reading (finalReads g) members′ lens′ requests′ replies′ n × Kinded g (bunchesIn g (b .elements)) (finalReads g) kinds′ n
+        Reading (finalReads g) members′ (lensIn (r .table)) (requestsIn (r .table)) (repliesIn (r .table)) (r .count) × Kinded g (bunchesIn g (b .elements)) (finalReads g) (kindsIn (r .table)) (r .count)
     last-reads =
         m (catalogOf catalog) (b .elements) grouping
-        (plain-reading catalog list places indexes requests replies tags v spellers spans numbers weights stops serves structs groups b members lens (p .0) (p .1))
-        (plain-kinded catalog list places indexes requests replies tags v spellers spans numbers weights stops serves structs groups b (replicate 256 0) 256 refl (omega arith))
+        (plain-reading catalog list places indexes requests replies tags v spellers spans numbers weights stops serves structs groups b table (p .1) members (p .0))
+        (plain-kinded catalog list places indexes requests replies tags v spellers spans numbers weights stops serves structs groups b table (p .1))
 
-    pub start-telling : Telling list places indexes spellers spans numbers members′ lens′ kinds′ n
+    last-named : RowsNamed list places spellers spans r
+    last-named = k (rows-named requests replies table tags (p .1) list places spellers spans)
+
+    pub start-telling : Telling list places indexes numbers members′ (r .table) (r .count)
     start-telling =
         plan-telling catalog list places indexes requests replies tags v (b .elements) spellers spans numbers weights asks stops serves structs groups grouping
-        members′ lens′ kinds′ requests′ replies′ n (last-reads .0) (last-reads .1)
+        members′ r (last-reads .0) (last-reads .1) last-named
 
-    pub start-written : (file file′ : List ℕ) (r : ℕ) → PlanWritten list places indexes spellers spans numbers members′ lens′ kinds′ n file file′ r → Planned catalog list file file′ r
+    pub start-written : (file file′ : List ℕ) (n : ℕ) → PlanWritten list places indexes numbers members′ (r .table) (r .count) file file′ n → Planned catalog list file file′ n
     start-written =
         plan-written catalog list places indexes requests replies tags v (b .elements) spellers spans numbers weights asks stops serves structs groups grouping
-        members′ lens′ kinds′ requests′ replies′ n (last-reads .0) (last-reads .1)
+        members′ r (last-reads .0) (last-reads .1) last-named

@@ -1,17 +1,18 @@
--- Where planning starts: a plain read of each tag, told by columns of the positions, of ones, of the sizes that the tags' names have, and
--- of no groups. No reply is over the limit of a column.
+-- Where planning starts: a plain read of each tag, in a table of rows with no groups, each of one tag and of the sizes that the tag's name
+-- has, beside a column of the positions. No reply is over the limit of a column.
 -- Assumes nothing.
 use Prim.Native.Nat.{ℕ, zero, suc, _+_, _≤_, _<_}
 use native.Mathlib.Omega.{arith}
 use native.Mathlib.Nat.{add-zero}
 use native.Mathlib.Numerals.{add-one}
-use mathlib.Core.Path.{_≡_, refl, sym, ap, subst, _∙_}
+use mathlib.Core.Path.{_≡_, refl, sym, ap, ap₂, subst, _∙_}
 use mathlib.Core.List.{List, [], _∷_, _++_, map, map-map}
 use mathlib.Core.Option.{Option, none}
-use lib.ListN.{length, take, set, length-set, replicate}
+use lib.ListN.{length, take, drop, getD, set, length-set, replicate}
 use lib.Seq.{take-suc-set}
 use Rattle.fields.specs.Format.{All}
 use Rattle.fields.specs.Text.{Text}
+use Rattle.fields.proofs.Lists.{drop-next}
 use Rattle.names.specs.Pieces.{joined}
 use Rattle.catalog.specs.Catalog.{Catalog, catalogOf}
 use Rattle.sizes.specs.Sizes.{readSize}
@@ -28,8 +29,11 @@ use Rattle.planner.proofs.Each.{each-map}
 use Rattle.planner.proofs.Listed.{Fair}
 use Rattle.planner.proofs.Small.{small-fine, small-more}
 use Rattle.candidates.specs.Columns.{Bunch, positions}
-use Rattle.merging.specs.Columns.{largestSize}
-use Rattle.planning.specs.Tables.{Reading, groupBy, Kinded}
+use Rattle.merging.specs.Columns.{listed, largestSize}
+use Rattle.pending.specs.declared.Pending.{Pending as Row}
+use Rattle.planning.specs.Tables.{lensIn, kindsIn, requestsIn, repliesIn, plainRow, Reading, groupBy, Kinded}
+use Rattle.planning.specs.Choosing.{RowNamed}
+use Rattle.planning.proofs.Tabled.{map-front}
 use Rattle.planning.proofs.Tagged.{count-tags, few-tags, all-fair}
 
 -- ---- columns of one number
@@ -53,46 +57,97 @@ positions-more i n = rw add-one (go i n)
     go i zero = rw add-zero refl
     go i (suc n) = let e : i + 1 + n ≡ i + suc n = omega arith in ap (λ x. i ∷ x) (rw e at (go (i + 1) n))
 
-ones-more : (n : ℕ) → replicate {A = ℕ} (n + 1) 1 ≡ replicate n 1 ++ 1 ∷ []
-ones-more n = rw add-one (go n)
+-- ---- listed values
+listed-more : {A : Type 0} (f : ℕ → A) (i n : ℕ) → listed f i (n + 1) ≡ listed f i n ++ f (i + n) ∷ []
+unfolding listed
+listed-more f i n = rw add-one (go i n)
   where
-    go : (n : ℕ) → replicate {A = ℕ} (suc n) 1 ≡ replicate n 1 ++ 1 ∷ []
-    go zero = refl
-    go (suc n) = ap (λ x. 1 ∷ x) (go n)
+    go : (i n : ℕ) → listed f i (suc n) ≡ listed f i n ++ f (i + n) ∷ []
+    go i zero = rw add-zero refl
+    go i (suc n) = let e : i + 1 + n ≡ i + suc n = omega arith in ap (λ x. f i ∷ x) (rw e at (go (i + 1) n))
+
+listed-map : {A B : Type 0} (h : A → B) (f : ℕ → A) (i n : ℕ) → map h (listed f i n) ≡ listed (λ k. h (f k)) i n
+unfolding listed
+listed-map h f i zero = refl
+listed-map h f i (suc n) = ap (λ x. h (f i) ∷ x) (listed-map h f (i + 1) n)
+
+listed-one : (v i n : ℕ) → listed (λ k. v) i n ≡ replicate n v
+unfolding listed
+listed-one v i zero = refl
+listed-one v i (suc n) = ap (λ x. v ∷ x) (listed-one v (i + 1) n)
+
+listed-column : (l : List ℕ) (i n : ℕ) → i + n ≤ length l → listed (λ k. getD l k 0) i n ≡ take n (drop i l)
+unfolding listed
+listed-column l i zero h = refl
+listed-column l i (suc n) h = ap (λ x. getD l i 0 ∷ x) (listed-column l (i + 1) n (omega arith)) ∙ sym (ap (take (suc n)) (drop-next l i (omega arith)))
+
+all-listed : {A : Type 0} (P : A → Type 0) (f : ℕ → A) (i n : ℕ) → ((k : ℕ) → P (f k)) → All P (listed f i n)
+unfolding listed
+all-listed P f i zero h = tt
+all-listed P f i (suc n) h = (h i, all-listed P f (i + 1) n h)
+
+-- the plain read of the tag at a position, by the columns of sizes
+abbrev pub rowAt : List ℕ → List ℕ → ℕ → Row
+rowAt requests replies i = plainRow (getD requests i 0) (getD replies i 0)
 
 -- the first `i` of `tags` are there
-pub record Filling (tags : ℕ) (members lens : List ℕ) (i : ℕ) : Type 0 where
+pub record Filling (tags : ℕ) (requests replies members : List ℕ) (table : List Row) (i : ℕ) : Type 0 where
   pub few : tags ≤ 256
   pub within : i ≤ tags
   pub wide : length members ≡ 256
-  pub long : length lens ≡ 256
+  pub long : length table ≡ 256
   pub places : take i members ≡ positions 0 i
-  pub ones : take i lens ≡ replicate i 1
+  pub rows : take i table ≡ listed (rowAt requests replies) 0 i
 
-pub filling-start : (tags : ℕ) (members lens : List ℕ) → tags ≤ 256 → length members ≡ 256 → length lens ≡ 256 → Filling tags members lens 0
-unfolding positions
-filling-start tags members lens f a b = record { few = f; within = omega arith; wide = a; long = b; places = refl; ones = refl }
+pub filling-start : (tags : ℕ) (requests replies members : List ℕ) (table : List Row) → tags ≤ 256 → length members ≡ 256 → length table ≡ 256 → Filling tags requests replies members table 0
+unfolding positions listed
+filling-start tags requests replies members table f a b = record { few = f; within = omega arith; wide = a; long = b; places = refl; rows = refl }
 
-pub filling-next : (tags : ℕ) (members lens : List ℕ) (i : ℕ) → Filling tags members lens i → i < tags → Filling tags (set members i i) (set lens i 1) (i + 1)
-filling-next tags members lens i f l =
-    let w = f .wide in
-    let o = f .long in
-    let m = f .few in
-    let z : 0 + i ≡ i = omega arith in
-    record {
-      few = f .few;
-      within = omega arith;
-      wide = length-set members i i ∙ f .wide;
-      long = length-set lens i 1 ∙ f .long;
-      places = rw add-one (take-suc-set members i i (omega arith)) ∙ ap (λ x. x ++ i ∷ []) (f .places) ∙ sym (rw z at (positions-more 0 i));
-      ones = rw add-one (take-suc-set lens i 1 (omega arith)) ∙ ap (λ x. x ++ 1 ∷ []) (f .ones) ∙ sym (ones-more i);
-    }
+module _ (tags : ℕ) (requests replies members : List ℕ) (table : List Row) (i : ℕ) (f : Filling tags requests replies members table i) where
+  pub filling-next : (r : Row) → r ≡ rowAt requests replies i → i < tags → Filling tags requests replies (set members i i) (set table i r) (i + 1)
+  filling-next r e l =
+      let w = f .wide in
+      let o = f .long in
+      let m = f .few in
+      let z : 0 + i ≡ i = omega arith in
+      record {
+        few = f .few;
+        within = omega arith;
+        wide = length-set members i i ∙ f .wide;
+        long = length-set table i r ∙ f .long;
+        places = rw add-one (take-suc-set members i i (omega arith)) ∙ ap (λ x. x ++ i ∷ []) (f .places) ∙ sym (rw z at (positions-more 0 i));
+        rows =
+            rw add-one (take-suc-set table i r (omega arith)) ∙ ap₂ (λ x y. x ++ y ∷ []) (f .rows) e ∙ sym (rw z at (listed-more (rowAt requests replies) 0 i));
+      }
 
-pub filling-end : (tags : ℕ) (members lens : List ℕ) (i : ℕ) → Filling tags members lens i → tags ≤ i → (take tags members ≡ positions 0 tags) × (take tags lens ≡ replicate tags 1)
-filling-end tags members lens i f l =
-    let w = f .within in
-    let e : i ≡ tags = omega arith in
-    (subst (λ n. take n members ≡ positions 0 n) e (f .places), subst (λ n. take n lens ≡ replicate n 1) e (f .ones))
+  pub filling-end : tags ≤ i → (take tags members ≡ positions 0 tags) × (take tags table ≡ listed (rowAt requests replies) 0 tags)
+  filling-end l =
+      let w = f .within in
+      let e : i ≡ tags = omega arith in
+      (subst (λ n. take n members ≡ positions 0 n) e (f .places), subst (λ n. take n table ≡ listed (rowAt requests replies) 0 n) e (f .rows))
+
+-- ---- the columns of a table of plain reads
+module _ (requests replies : List ℕ) (table : List Row) (n : ℕ) (e : take n table ≡ listed (rowAt requests replies) 0 n) where
+  rows-column : (f : Row → ℕ) → take n (map f table) ≡ listed (λ k. f (rowAt requests replies k)) 0 n
+  rows-column f = sym (map-front f n table) ∙ ap (map f) e ∙ listed-map f (rowAt requests replies) 0 n
+
+  pub rows-lens : take n (lensIn table) ≡ replicate n 1
+  rows-lens = rows-column (λ p. p .count) ∙ listed-one 1 0 n
+
+  pub rows-kinds : take n (kindsIn table) ≡ replicate n 0
+  rows-kinds = rows-column (λ p. p .group) ∙ listed-one 0 0 n
+
+  pub rows-requests : n ≤ length requests → take n (requestsIn table) ≡ take n requests
+  rows-requests h = rows-column (λ p. p .request) ∙ listed-column requests 0 n (omega arith)
+
+  pub rows-replies : n ≤ length replies → take n (repliesIn table) ≡ take n replies
+  rows-replies h = rows-column (λ p. p .reply) ∙ listed-column replies 0 n (omega arith)
+
+  -- plain reads have no name ranges
+  pub rows-named : (list places spellers spans : List ℕ) → All (RowNamed list places spellers spans) (take n table)
+  rows-named list places spellers spans =
+      subst (All (RowNamed list places spellers spans)) (sym e)
+      (all-listed (RowNamed list places spellers spans) (rowAt requests replies) 0 n (λ k. record { plain = λ q. (refl, refl); group = λ q. absurd (omega arith) }))
 
 -- ---- plain reads
 

@@ -46,9 +46,6 @@ indexed-limit : (i : ℕ) → step .within (indexed i) → i ≤ 4294967295
 unfolding step stepByte afterByte indexedNumber leading among choice number numeric
 indexed-limit i h = h .1 .1
 
-pub length-indexed : (i : ℕ) → length (step .lay (indexed i)) ≡ 5
-length-indexed i = let d = length-digits 4 i in ap length (lay-indexed i) ∙ omega arith
-
 -- ---- a token that has room
 -- without indexes: a dot and a name
 pub record NameStep (t : Text) (path : List ℕ) (at : ℕ) : Type 0 where

@@ -1,4 +1,5 @@
--- One read of a plan, told by its kind and the positions that it serves: its bytes by the columns are its layout, and it can be written.
+-- One read of a plan, told by its kind, the name of its group and the positions that it serves: its bytes by the columns are its layout,
+-- and it can be written.
 -- Assumes nothing.
 use Prim.Native.Nat.{ℕ, _+_, _-_, _≤_, _<_}
 use native.Mathlib.Omega.{arith}
@@ -31,9 +32,9 @@ use Rattle.planner.proofs.Listed.{Fair}
 use Rattle.planner.proofs.Names.{length-run, NameWithin, run-limits}
 use Rattle.planner.proofs.Bytes.{ReadFits, read-fits}
 use Rattle.candidates.specs.Columns.{Bunch, bunchName, bunchShape, groupOf}
-use Rattle.planning.specs.Tables.{Named, Indexed, Spelled, namesIn, noBunch, bunchAt, groupAt, groupBy}
+use Rattle.planning.specs.Tables.{Named, Indexed, namesIn, noBunch, bunchAt, groupAt, groupBy}
 use Rattle.planning.specs.Choosing.{runName}
-use Rattle.planning.specs.Put.{namesBy, numbersBy, Columns, columnsOf, underIn, elementIn, UnderFit, ElementFit, startIn, spanIn, plainBytes, structBytes, runBytes, readBytes, StructFit, RunFit, groupName, toldBytes, ToldFit}
+use Rattle.planning.specs.Put.{namesBy, numbersBy, Columns, columnsOf, underIn, elementIn, UnderFit, ElementFit, startIn, spanIn, plainBytes, structBytes, runBytes, readBytes, StructFit, RunFit, Laid, toldBytes, ToldFit}
 use Rattle.planning.proofs.Laying.{name-at, short-at, under-laid, under-fits, index-at, run-there, element-laid, element-fits, rows-laid, map-same}
 
 -- ---- columns that tell the groups
@@ -54,10 +55,13 @@ pub record Known (g : Given) (r : Pending) : Type 0 where
   pub run : IfRun g r
   pub few : length (r .serves) ≤ 256
 
--- what is told of a read: `k` is its kind
-pub record ReadTold (g : Given) (t : Columns) (k : ℕ) (r : Pending) : Type 0 where
-  pub bytes : toldBytes t k (r .serves) ≡ read .lay (written g r)
-  pub fit : ToldFit t k (r .serves)
+-- what is told of a read: `k` is its kind, `name` the name of its group
+abbrev pub laidAs : ℕ → Text → Pending → Laid
+laidAs k name r = record { kind = k; text = name; serves = r .serves }
+
+pub record ReadTold (g : Given) (t : Columns) (k : ℕ) (name : Text) (r : Pending) : Type 0 where
+  pub bytes : toldBytes t (laidAs k name r) ≡ read .lay (written g r)
+  pub fit : ToldFit t (laidAs k name r)
 
 -- a read as its head and its members
 lay-read : (g : Given) (r : Pending) → read .lay (written g r) ≡ readHead (r .name) (length (r .serves)) ++ manyLay member (map (memberOf g r) (r .serves))
@@ -66,10 +70,10 @@ lay-read g r =
     let ms = map (memberOf g r) (r .serves) in
     head-is (record { name = r .name; members = ms }) ∙ ap (λ n. readHead (r .name) n ++ manyLay member ms) (length-map (r .serves) (memberOf g r))
 
-module _ (g : Given) (list places indexes spellers spans numbers : List ℕ) (bs : List Bunch) (names : Named g list places) (ixs : Indexed g indexes) (spelled : Spelled bs spellers spans)
+module _ (g : Given) (list places indexes numbers : List ℕ) (bs : List Bunch) (names : Named g list places) (ixs : Indexed g indexes)
     (numbered : take (length bs) numbers ≡ map (λ b. b .number) bs) (limit : length bs ≤ 8448) (fair : All Fair (g .tags)) (few : length (g .tags) ≤ 256) (asked : length (g .list .tags) ≤ 256) where
   abbrev told : Columns
-  told = columnsOf list places indexes spellers spans numbers
+  told = columnsOf list places indexes numbers
 
   abbrev nm : ℕ → Text
   nm = namesBy list places
@@ -98,9 +102,9 @@ module _ (g : Given) (list places indexes spellers spans numbers : List ℕ) (bs
         ∙ ap (λ m. readHead x 1 ++ m) (append-nil (memberBytes x []))
         ∙ sym (ap plainBytes (name-at g list places names fair few p l))
 
-    plain-told : (k : ℕ) → k ≡ 0 → PlainRead g r → ReadTold g told k r
+    plain-told : (k : ℕ) (name : Text) → k ≡ 0 → PlainRead g r → ReadTold g told k name r
     unfolding toldBytes readBytes columnsOf
-    plain-told k z s =
+    plain-told k name z s =
         let l : s .at < 256 = (let a = s .listed in omega arith) in
         let e : getD (r .serves) 0 0 ≡ s .at = ap (λ ps. getD ps 0 0) (s .serves) in
         let c = ap length (s .serves) in
@@ -181,79 +185,72 @@ module _ (g : Given) (list places indexes spellers spans numbers : List ℕ) (bs
           }
 
     -- ---- the read of a group
-    module _ (k : ℕ) (z : k ≡ 0 → ⊥) (l : k ≤ length bs) (e : r .group ≡ some (groupAt g bs (k - 1))) where
+    module _ (k : ℕ) (name : Text) (z : k ≡ 0 → ⊥) (l : k ≤ length bs) (e : r .group ≡ some (groupAt g bs (k - 1))) (called : name ≡ bunchName (namesIn g) (bunchAt bs (k - 1))) where
       abbrev b : Bunch
       b = bunchAt bs (k - 1)
 
       number-is : numbersBy numbers (k - 1) ≡ b .number
       number-is = column-at (λ x. x .number) bs numbers (k - 1) refl numbered (omega arith)
 
-      group-name : groupName told (k - 1) ≡ bunchName (namesIn g) b
-      unfolding groupName columnsOf bunchName bunchAt namesIn
-      group-name =
-          let x = column-at (λ y. y .tag) bs spellers (k - 1) refl (spelled .spelling) (omega arith) in
-          let y = column-at (λ y. y .end) bs spans (k - 1) refl (spelled .spanning) (omega arith) in
-          let w : b .tag < 256 = each-getD (λ (c : Bunch). c .tag < 256) bs (k - 1) noBunch (spelled .within) (omega arith) in
-          ap₂ (λ n p. take n (nm p)) y x ∙ ap (take (b .end)) (name-at g list places names fair few (b .tag) w)
-
       -- its positions
       some-served : 1 ≤ length (r .serves)
       some-served = fits .one
 
-      struct-told : b .number ≡ 0 → ReadTold g told k r
+      struct-told : b .number ≡ 0 → ReadTold g told k name r
       unfolding toldBytes readBytes columnsOf groupAt groupOf bunchShape bunchAt
       struct-told n =
           let q : groupAt g bs (k - 1) .shape ≡ whole (bunchName (namesIn g) b) (b .weight) = rw (eq-eqb (b .number) 0 n) in
           let s = known .struct (groupAt g bs (k - 1)) (bunchName (namesIn g) b) (b .weight) e q in
           let m = number-is ∙ n in
           record {
-            bytes = rw (ne-eqb k 0 z, eq-eqb (numbersBy numbers (k - 1)) 0 m) (ap (λ t. structBytes nm t (r .serves)) group-name ∙ sym (struct-bytes (bunchName (namesIn g) b) s));
+            bytes = rw (ne-eqb k 0 z, eq-eqb (numbersBy numbers (k - 1)) 0 m) (ap (λ t. structBytes nm t (r .serves)) called ∙ sym (struct-bytes (bunchName (namesIn g) b) s));
             fit = record {
               known = omega arith;
               fit = record {
                 some = some-served;
                 plain = λ x. absurd (z x);
-                struct = λ x y. subst (λ t. StructFit nm t (r .serves)) (sym group-name) (struct-fits (bunchName (namesIn g) b) s);
+                struct = λ x y. subst (λ t. StructFit nm t (r .serves)) (sym called) (struct-fits (bunchName (namesIn g) b) s);
                 run = λ x y. absurd (y m);
               };
             };
           }
 
-      run-told : (b .number ≡ 0 → ⊥) → ReadTold g told k r
+      run-told : (b .number ≡ 0 → ⊥) → ReadTold g told k name r
       unfolding toldBytes readBytes columnsOf groupAt groupOf bunchShape bunchAt
       run-told n =
           let q : groupAt g bs (k - 1) .shape ≡ run (bunchName (namesIn g) b) (b .weight) = rw (ne-eqb (b .number) 0 n) in
           let s = known .run (groupAt g bs (k - 1)) (bunchName (namesIn g) b) (b .weight) e q in
           let m : numbersBy numbers (k - 1) ≡ 0 → ⊥ = λ x. n (sym number-is ∙ x) in
           record {
-            bytes = rw (ne-eqb k 0 z, ne-eqb (numbersBy numbers (k - 1)) 0 m) (ap (λ t. runBytes nm ix t (r .serves)) group-name ∙ sym (run-bytes (bunchName (namesIn g) b) s));
+            bytes = rw (ne-eqb k 0 z, ne-eqb (numbersBy numbers (k - 1)) 0 m) (ap (λ t. runBytes nm ix t (r .serves)) called ∙ sym (run-bytes (bunchName (namesIn g) b) s));
             fit = record {
               known = omega arith;
               fit = record {
                 some = some-served;
                 plain = λ x. absurd (z x);
                 struct = λ x y. absurd (m y);
-                run = λ x y. subst (λ t. RunFit nm ix t (r .serves)) (sym group-name) (run-fits (bunchName (namesIn g) b) s);
+                run = λ x y. subst (λ t. RunFit nm ix t (r .serves)) (sym called) (run-fits (bunchName (namesIn g) b) s);
               };
             };
           }
 
-      group-told : ReadTold g told k r
+      group-told : ReadTold g told k name r
       group-told = go (eqb (b .number) 0) refl
         where
-          go : (x : Bool) → eqb (b .number) 0 ≡ x → ReadTold g told k r
+          go : (x : Bool) → eqb (b .number) 0 ≡ x → ReadTold g told k name r
           go true q = struct-told (eqb-true (b .number) 0 q)
           go false q = run-told (eqb-false (b .number) 0 q)
 
     -- ---- by the kind
-    pub read-told : (k : ℕ) → k ≤ length bs → groupBy g bs k ≡ r .group → ReadTold g told k r
+    pub read-told : (k : ℕ) (name : Text) → k ≤ length bs → groupBy g bs k ≡ r .group → (0 < k → name ≡ bunchName (namesIn g) (bunchAt bs (k - 1))) → ReadTold g told k name r
     unfolding groupBy
-    read-told k l e = go (eqb k 0) refl
+    read-told k name l e called = go (eqb k 0) refl
       where
-        go : (x : Bool) → eqb k 0 ≡ x → ReadTold g told k r
+        go : (x : Bool) → eqb k 0 ≡ x → ReadTold g told k name r
         go true q =
             let f : r .group ≡ none = sym e ∙ rw q in
-            plain-told k (eqb-true k 0 q) (subst (λ o. ShapedBy g o r) f (known .shaped))
+            plain-told k name (eqb-true k 0 q) (subst (λ o. ShapedBy g o r) f (known .shaped))
         go false q =
             let f : r .group ≡ some (groupAt g bs (k - 1)) = sym e ∙ rw q in
-            group-told k (eqb-false k 0 q) l f
+            let z = eqb-false k 0 q in
+            group-told k name z l f (called (omega arith))

@@ -75,9 +75,6 @@ module _ (catalog list : List ℕ) (a : Accepted catalog list) where
   unfolding viewedPlaces
   places-viewed = rw is-viewed
 
-  count-places : length (tagPlaces list) ≡ length ts
-  count-places = tag-places-length list ∙ sym (tags-length (catalogOf catalog) (listOf list))
-
   -- ---- the column of the places
 
   name-is : (p : ℕ) → namesIn g p ≡ getD (listOf list .tags) p []

@@ -19,6 +19,7 @@ use Rattle.plans.specs.Access.{readHead, memberBytes}
 use Rattle.planner.specs.Lists.{least, greatest}
 use Rattle.planner.specs.Plan.{stepOf}
 use Rattle.planner.proofs.Leads.{Single}
+use Rattle.pending.specs.declared.Pending.{Pending as Row}
 use Rattle.planning.specs.Choosing.{runName}
 
 -- ---- columns
@@ -35,24 +36,15 @@ namesBy list places p = textThere list (getD places p 0)
 unfoldable pub numbersBy : List ℕ → ℕ → ℕ
 numbersBy column p = getD column p 0
 
--- what columns tell: the names and the indexes of the tags; and of each group the tag that spells it, where its name ends there, and
--- its number
+-- what columns tell: the names and the indexes of the tags; and the number of each group
 pub record Columns : Type 0 where
   pub name : ℕ → Text
   pub index : ℕ → ℕ
-  pub speller : ℕ → ℕ
-  pub span : ℕ → ℕ
   pub number : ℕ → ℕ
 
 -- the columns as they are lent
-unfoldable pub columnsOf : (list places indexes spellers spans numbers : List ℕ) → Columns
-columnsOf list places indexes spellers spans numbers = record {
-  name = namesBy list places;
-  index = numbersBy indexes;
-  speller = numbersBy spellers;
-  span = numbersBy spans;
-  number = numbersBy numbers;
-}
+unfoldable pub columnsOf : (list places indexes numbers : List ℕ) → Columns
+columnsOf list places indexes numbers = record { name = namesBy list places; index = numbersBy indexes; number = numbersBy numbers }
 
 -- ---- paths
 
@@ -179,33 +171,34 @@ pub record ReadFit (nm : ℕ → Text) (ix : ℕ → ℕ) (t : Text) (n k : ℕ)
 
 -- ---- the plan file
 
--- the name of a group, or its array's
-unfoldable pub groupName : Columns → ℕ → Text
-groupName t j = take (t .span j) (t .name (t .speller j))
-
--- a read as columns tell it: its kind is one more than its group's place in them
-unfoldable pub toldBytes : Columns → ℕ → List ℕ → List ℕ
-toldBytes t k ps = readBytes (t .name) (t .index) (groupName t (k - 1)) (t .number (k - 1)) k ps
-
--- such a read can be written
-pub record ToldFit (t : Columns) (k : ℕ) (ps : List ℕ) : Type 0 where
-  pub known : k ≤ 8448
-  pub fit : ReadFit (t .name) (t .index) (groupName t (k - 1)) (t .number (k - 1)) k ps
-
--- a read as the columns tell it
+-- a read as the columns and a table tell it: its kind is one more than its group's place in the columns, its text the group's name
 pub record Laid : Type 0 where
   pub kind : ℕ
+  pub text : Text
   pub serves : List ℕ
 
--- the reads of these kinds and numbers of tags, whose positions stand in a row
-unfoldable pub laidBy : List ℕ → List ℕ → List ℕ → List Laid
-laidBy [] ns ms = []
-laidBy (k ∷ ks) [] ms = []
-laidBy (k ∷ ks) (n ∷ ns) ms = record { kind = k; serves = take n ms } ∷ laidBy ks ns (drop n ms)
+-- its bytes
+unfoldable pub toldBytes : Columns → Laid → List ℕ
+toldBytes t x = readBytes (t .name) (t .index) (x .text) (t .number (x .kind - 1)) (x .kind) (x .serves)
+
+-- such a read can be written
+pub record ToldFit (t : Columns) (x : Laid) : Type 0 where
+  pub known : x .kind ≤ 8448
+  pub fit : ReadFit (t .name) (t .index) (x .text) (t .number (x .kind - 1)) (x .kind) (x .serves)
+
+-- the read of a row, which serves these positions
+abbrev pub rowLaid : List ℕ → Row → List ℕ → Laid
+rowLaid list p ps = record { kind = p .group; text = part (p .start) (p .end) list; serves = ps }
+
+-- the reads of rows, whose positions stand one behind the other
+unfoldable pub laidBy : List ℕ → List Row → List ℕ → List Laid
+laidBy list [] ms = []
+laidBy list (p ∷ ps) ms = rowLaid list p (take (p .count) ms) ∷ laidBy list ps (drop (p .count) ms)
 
 -- their bytes
 unfoldable pub readsBytes : Columns → List Laid → List ℕ
-readsBytes t xs = joined (map (λ (x : Laid). toldBytes t (x .kind) (x .serves)) xs)
+readsBytes t xs = joined (map (toldBytes t) xs)
 
-unfoldable pub planBytes : Columns → List ℕ → List ℕ → List ℕ → ℕ → List ℕ
-planBytes t kinds lens members count = 1 ∷ (digits 2 count ++ readsBytes t (laidBy (take count kinds) (take count lens) members))
+-- the plan file of the first `count` rows of a table
+unfoldable pub planBytes : Columns → List ℕ → List Row → List ℕ → ℕ → List ℕ
+planBytes t list table members count = 1 ∷ (digits 2 count ++ readsBytes t (laidBy list (take count table) members))

@@ -5,14 +5,17 @@ use Prim.Native.Nat.{ℕ, _≤_, _<_}
 use mathlib.Core.Path.{_≡_}
 use mathlib.Core.Bool.{Bool}
 use mathlib.Core.List.{List, _++_, map}
-use lib.ListN.{length, take, getD}
+use lib.ListN.{length, take, getD, replicate}
 use Rattle.fields.specs.Format.{fine}
 use Rattle.fields.specs.Writing.{answered}
 use Rattle.names.specs.Pieces.{joined}
 use Rattle.catalog.specs.Catalog.{Catalog, catalogOf}
 use Rattle.catalog.specs.Check.{catalogVerdict}
 use Rattle.sizes.specs.Sizes.{readSize, requestSize}
+use Rattle.packing.specs.declared.Cost.{Cost}
 use Rattle.packing.specs.Packing.{standard}
+use Rattle.packing.specs.Tables.{sizesOf}
+use Rattle.packing.specs.Told.{started, stepsOf}
 use Rattle.lists.specs.Lists.{tagList, listOf, listVerdict, longestList, layout as listLayout}
 use Rattle.planner.specs.Rows.{rowsFrom}
 use Rattle.planner.specs.Merging.{Given, tagAt}
@@ -20,7 +23,9 @@ use Rattle.planner.specs.Plan.{plainReads, startReads, finalReads, givenOf}
 use Rattle.candidates.specs.Columns.{Bunch, Elements, tagName, isOne, rowsIn, elementsIn, wholesIn, runsIn, endsFrom, bunchName}
 use Rattle.candidates.proofs.Told.{Listing}
 use Rattle.candidates.proofs.RunsOf.{Lies}
-use Rattle.planning.specs.Tables.{namesIn, Grouped, Spelled, Indexed, Named, Reading, Kinded}
+use Rattle.merging.specs.Columns.{closed}
+use Rattle.pending.specs.declared.Pending.{Pending as Row}
+use Rattle.planning.specs.Tables.{namesIn, Grouped, Spelled, Indexed, Named, requestsIn, repliesIn, Reading, Kinded}
 use Rattle.planning.specs.Merges.{Lookup}
 use Rattle.planning.specs.Planning.{planFile}
 
@@ -121,6 +126,11 @@ pub record Grouping (c : Catalog) (e : Elements) (list places indexes spellers s
   pub groups-are : groups ≡ length (bunchesIn (givenOf standard c (listOf list)) e)
 
 -- ---- what is answered
+
+-- the packets of the first `count` reads of a table
+unfoldable pub packetsIn : Cost → ℕ → List Row → ℕ → ℕ
+packetsIn cost budget table count =
+    stepsOf cost budget (started budget) (closed (take count (replicate 256 0)) (record { request = 0; reply = 0 }) (sizesOf (requestsIn table) (repliesIn table))) .packets
 
 -- the last reads, from those after the together merges
 abbrev pub SettledTold : (list places indexes spellers spans numbers weights asks stops serves : List ℕ) → ℕ → ℕ → (members lens kinds requests replies : List ℕ) → ℕ

@@ -18,6 +18,8 @@ use Rattle.planner.specs.Merging.{Pending, Given, tagAt, indexAt, elementName, 
 use Rattle.candidates.specs.Columns.{Bunch, bunchName, groupOf, endsFrom}
 use Rattle.merging.specs.Columns.{largestSize}
 use Rattle.fields.specs.Format.{All}
+use Rattle.pending.specs.declared.Pending.{Pending as Row}
+use Rattle.pending.specs.Table.{groupOf as groupIn, countOf, requestOf, replyOf}
 
 -- the names of the tags
 unfoldable pub namesIn : Given → ℕ → Text
@@ -31,6 +33,7 @@ noBunch = record { tag = 0; end = 0; number = 0; weight = 0; serves = [] }
 unfoldable pub bunchAt : List Bunch → ℕ → Bunch
 bunchAt bs j = getD bs j noBunch
 
+-- the same as the planner has it
 unfoldable pub groupAt : Given → List Bunch → ℕ → Group
 groupAt g bs j = groupOf (namesIn g) (bunchAt bs j)
 
@@ -70,6 +73,26 @@ Indexed g indexes = (p : ℕ) → p < 256 → getD indexes p 0 ≡ indexAt g p
 -- a list file and a column that tell the names of the tags
 abbrev pub Named : Given → List ℕ → List ℕ → Type 0
 Named g list places = (p : ℕ) → p < 256 → part (textPart list (getD places p 0) .start) (textPart list (getD places p 0) .end) list ≡ namesIn g p
+
+-- the columns of a table of reads: how many tags each serves
+abbrev pub lensIn : List Row → List ℕ
+lensIn t = map countOf t
+
+-- their groups
+abbrev pub kindsIn : List Row → List ℕ
+kindsIn t = map groupIn t
+
+-- their requests
+abbrev pub requestsIn : List Row → List ℕ
+requestsIn t = map requestOf t
+
+-- and their replies
+abbrev pub repliesIn : List Row → List ℕ
+repliesIn t = map replyOf t
+
+-- a plain read in a table, by its sizes: it has no group's name, and serves one tag
+abbrev pub plainRow : ℕ → ℕ → Row
+plainRow request reply = record { group = 0; start = 0; end = 0; count = 1; request = request; reply = reply }
 
 -- columns that tell reads under way: the positions that they serve, and their sizes
 pub record Reading (rs : List Pending) (members lens requests replies : List ℕ) (count : ℕ) : Type 0 where

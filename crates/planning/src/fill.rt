@@ -10,13 +10,17 @@ use lists::read::whole_max;
 use names::Step;
 use names::walk::first_token;
 use names::walk::next_token;
+use pending::Reads;
+use pending::columns;
 use sizes::request::request_size;
 ghost use mathlib.Core.Path.{_≡_};
 ghost use Prim.Native.Nat.{_≤_, _<_};
 ghost use lib.ListN.{length};
 ghost use Rattle.names.specs.Name.{tokensOf};
 ghost use Rattle.names.specs.Told.{Based};
+ghost use Rattle.planning.specs.Tables.{lensIn, kindsIn, requestsIn, repliesIn};
 ghost use Rattle.planning.specs.Merges.{AskTold};
+ghost use Rattle.planning.specs.Choosing.{NamesKept};
 ghost use Rattle.planning.specs.Binding.{OneBound, LevelBound, AllBound};
 ghost use Rattle.planning.specs.Entering.{ListedTold, ChoiceTold, ChoiceFlag, Allowed, LevelTold, LevelsTold};
 
@@ -247,9 +251,13 @@ fn fill_levels(
     }
 }
 
-// The merge of the reads that a struct covers, if there is one; how many reads there are then.
+// The reads after the merge of those that a struct covers, if there is one.
 fn bind_one(
+    list: &[u8],
     j: usize,
+    places: &[usize; 256],
+    spellers: &[u8; 8448],
+    spans: &[u8; 8448],
     numbers: &[u16; 8448],
     weights: &[u16; 8448],
     asks: &[u16; 8448],
@@ -257,16 +265,18 @@ fn bind_one(
     serves: &[u8; 16640],
     indexes: &[u32; 256],
     members: &mut [u8; 256],
-    lens: &mut [u16; 256],
-    kinds: &mut [u16; 256],
-    requests: &mut [u64; 256],
-    replies: &mut [u64; 256],
-    count: usize,
-) -> usize
+    reads: Reads,
+) -> Reads
     requires { ⌜ j < 8448 ⌝ }
-    ensures { λ r. ⌜ OneBound j (now (numbers .entry)) (now (weights .entry)) (now (asks .entry)) (now (stops .entry)) (now (serves .entry)) (now (indexes .entry)) (now (members .entry)) (now (lens .entry)) (now (kinds .entry)) (now (requests .entry)) (now (replies .entry)) count (now (members .exit)) (now (lens .exit)) (now (kinds .exit)) (now (requests .exit)) (now (replies .exit)) r ⌝ }
+    ensures columns { λ r. ⌜ OneBound j (now (numbers .entry)) (now (weights .entry)) (now (asks .entry)) (now (stops .entry)) (now (serves .entry)) (now (indexes .entry)) (now (members .entry)) (lensIn (reads .table)) (kindsIn (reads .table)) (requestsIn (reads .table)) (repliesIn (reads .table)) (reads .count) (now (members .exit)) (lensIn (r .table)) (kindsIn (r .table)) (requestsIn (r .table)) (repliesIn (r .table)) (r .count) ⌝ }
+    ensures named { λ r. ⌜ NamesKept (now (list .entry)) (now (places .entry)) (now (spellers .entry)) (now (spans .entry)) reads r ⌝ }
 {
     let mut covered = [0; 256];
+    let mut lens = [0; 256];
+    let mut requests = [0; 256];
+    let mut replies = [0; 256];
+    let table = reads.table;
+    columns(table, &mut lens, &mut requests, &mut replies);
     let m = evaluate(
         j,
         numbers,
@@ -276,21 +286,26 @@ fn bind_one(
         serves,
         indexes,
         members,
-        lens,
-        replies,
-        count,
+        &lens,
+        &replies,
+        reads.count,
         &mut covered,
     );
     if m.saved == 0 {
-        return count;
+        return reads;
     }
-    apply(m, members, lens, kinds, requests, replies, count, &covered)
+    let name = name_of(list, places, spellers, spans, m.group);
+    apply(m, name, reads, members, &lens, &covered)
 }
 
-// The merges of the structs of one level; how many reads there are then.
+// The reads after the merges of the structs of one level.
 fn bind_level(
+    list: &[u8],
     level: u8,
     levels: &[u8; 8448],
+    places: &[usize; 256],
+    spellers: &[u8; 8448],
+    spans: &[u8; 8448],
     numbers: &[u16; 8448],
     weights: &[u16; 8448],
     asks: &[u16; 8448],
@@ -299,25 +314,26 @@ fn bind_level(
     indexes: &[u32; 256],
     structs: usize,
     members: &mut [u8; 256],
-    lens: &mut [u16; 256],
-    kinds: &mut [u16; 256],
-    requests: &mut [u64; 256],
-    replies: &mut [u64; 256],
-    count: usize,
-) -> usize
+    reads: Reads,
+) -> Reads
     requires { ⌜ structs ≤ 8448 ⌝ }
-    ensures { λ r. ⌜ LevelBound level (now (levels .entry)) (now (numbers .entry)) (now (weights .entry)) (now (asks .entry)) (now (stops .entry)) (now (serves .entry)) (now (indexes .entry)) structs (now (members .entry)) (now (lens .entry)) (now (kinds .entry)) (now (requests .entry)) (now (replies .entry)) count (now (members .exit)) (now (lens .exit)) (now (kinds .exit)) (now (requests .exit)) (now (replies .exit)) r ⌝ }
+    ensures columns { λ r. ⌜ LevelBound level (now (levels .entry)) (now (numbers .entry)) (now (weights .entry)) (now (asks .entry)) (now (stops .entry)) (now (serves .entry)) (now (indexes .entry)) structs (now (members .entry)) (lensIn (reads .table)) (kindsIn (reads .table)) (requestsIn (reads .table)) (repliesIn (reads .table)) (reads .count) (now (members .exit)) (lensIn (r .table)) (kindsIn (r .table)) (requestsIn (r .table)) (repliesIn (r .table)) (r .count) ⌝ }
+    ensures named { λ r. ⌜ NamesKept (now (list .entry)) (now (places .entry)) (now (spellers .entry)) (now (spans .entry)) reads r ⌝ }
 {
     let on = &levels[..];
-    let mut n = count;
+    let mut under = reads;
     let mut j = 0;
     while j < structs {
         if on[j] != level {
             j += 1;
             continue;
         }
-        n = bind_one(
+        under = bind_one(
+            list,
             j,
+            places,
+            spellers,
+            spans,
             numbers,
             weights,
             asks,
@@ -325,18 +341,14 @@ fn bind_level(
             serves,
             indexes,
             members,
-            lens,
-            kinds,
-            requests,
-            replies,
-            n,
+            under,
         );
         j += 1;
     }
-    n
+    under
 }
 
-// What is always read in one, the outermost structs first; how many reads there are then.
+// The reads after all that is always read in one, the outermost structs first.
 pub(crate) fn bind(
     list: &[u8],
     room: u64,
@@ -351,14 +363,11 @@ pub(crate) fn bind(
     indexes: &[u32; 256],
     structs: usize,
     members: &mut [u8; 256],
-    lens: &mut [u16; 256],
-    kinds: &mut [u16; 256],
-    requests: &mut [u64; 256],
-    replies: &mut [u64; 256],
-    count: usize,
-) -> usize
+    reads: Reads,
+) -> Reads
     requires { ⌜ structs ≤ 8448 ⌝ }
-    ensures { λ r. ⌜ AllBound (now (list .entry)) room (now (places .entry)) (now (indexes .entry)) (now (spellers .entry)) (now (spans .entry)) (now (numbers .entry)) (now (weights .entry)) (now (asks .entry)) (now (stops .entry)) (now (serves .entry)) structs (now (members .entry)) (now (lens .entry)) (now (kinds .entry)) (now (requests .entry)) (now (replies .entry)) count (now (members .exit)) (now (lens .exit)) (now (kinds .exit)) (now (requests .exit)) (now (replies .exit)) r ⌝ }
+    ensures columns { λ r. ⌜ AllBound (now (list .entry)) room (now (places .entry)) (now (indexes .entry)) (now (spellers .entry)) (now (spans .entry)) (now (numbers .entry)) (now (weights .entry)) (now (asks .entry)) (now (stops .entry)) (now (serves .entry)) structs (now (members .entry)) (lensIn (reads .table)) (kindsIn (reads .table)) (requestsIn (reads .table)) (repliesIn (reads .table)) (reads .count) (now (members .exit)) (lensIn (r .table)) (kindsIn (r .table)) (requestsIn (r .table)) (repliesIn (r .table)) (r .count) ⌝ }
+    ensures named { λ r. ⌜ NamesKept (now (list .entry)) (now (places .entry)) (now (spellers .entry)) (now (spans .entry)) reads r ⌝ }
 {
     let mut levels = [0; 8448];
     fill_levels(
@@ -371,12 +380,16 @@ pub(crate) fn bind(
         structs,
         &mut levels,
     );
-    let mut n = count;
+    let mut under = reads;
     let mut level: u8 = 1;
     while level <= 64 {
-        n = bind_level(
+        under = bind_level(
+            list,
             level,
             &levels,
+            places,
+            spellers,
+            spans,
             numbers,
             weights,
             asks,
@@ -385,13 +398,9 @@ pub(crate) fn bind(
             indexes,
             structs,
             members,
-            lens,
-            kinds,
-            requests,
-            replies,
-            n,
+            under,
         );
         level += 1;
     }
-    n
+    under
 }

@@ -14,8 +14,6 @@ use fields::text::stands_before;
 use fields::write::put_bytes;
 use lists::bars::is_barred;
 use lists::read::budget;
-use merging::change::close16;
-use merging::change::close64;
 use merging::change::regroup;
 use merging::change::total_members;
 use merging::cover::bounds;
@@ -24,6 +22,10 @@ use merging::cover::mark;
 use merging::cover::packets_with;
 use merging::cover::total_reply;
 use packing::Cost;
+use pending::Pending;
+use pending::Reads;
+use pending::columns;
+use pending::merge;
 use sizes::request::index_size;
 ghost use mathlib.Core.Path.{_≡_};
 ghost use Prim.Native.Nat.{_+_, _-_, _*_, _≤_, _<_};
@@ -31,8 +33,9 @@ ghost use lib.Dec.{leb};
 ghost use lib.ListN.{length};
 ghost use Rattle.fields.specs.Text.{earlier};
 ghost use Rattle.fields.specs.Writing.{answered};
+ghost use Rattle.planning.specs.Tables.{lensIn, kindsIn, requestsIn, repliesIn};
 ghost use Rattle.planning.specs.Merges.{noOffer, Offered, Modest, NextTold, Applied, Settled};
-ghost use Rattle.planning.specs.Choosing.{keyOf, runName, servedFrom, namePart, FreeTold, FirstTold, BetterTold, LeadTold};
+ghost use Rattle.planning.specs.Choosing.{keyOf, runName, servedFrom, namePart, RenamedBy, NamesKept, FreeTold, FirstTold, BetterTold, LeadTold};
 ghost use Rattle.planning.specs.Turns.{FlagTold, wholeOffer, runOffer, WeighTold, TurnTold};
 
 // A merge: its group, how many reads it saves, 0 for none, what those that it replaces reply, what the new read takes, and where a run
@@ -516,32 +519,37 @@ fn next_merge(
     best
 }
 
-// The reads after a merge; how many there are.
+// The reads after a merge, of which the name stands at a part of the list.
 fn apply(
     m: Offer,
+    name: Part,
+    reads: Reads,
     members: &mut [u8; 256],
-    lens: &mut [u16; 256],
-    kinds: &mut [u16; 256],
-    requests: &mut [u64; 256],
-    replies: &mut [u64; 256],
-    count: usize,
+    lens: &[u16; 256],
     covered: &[u8; 256],
-) -> usize
-    requires { ⌜ Modest m ⌝ }
-    ensures { λ r. ⌜ Applied m (now (members .entry)) (now (lens .entry)) (now (kinds .entry)) (now (requests .entry)) (now (replies .entry)) (now (covered .entry)) count (now (members .exit)) (now (lens .exit)) (now (kinds .exit)) (now (requests .exit)) (now (replies .exit)) r ⌝ }
+) -> Reads
+    requires { ⌜ Modest m × (now lens ≡ lensIn (reads .table)) ⌝ }
+    ensures columns { λ r. ⌜ Applied m (now (members .entry)) (lensIn (reads .table)) (kindsIn (reads .table)) (requestsIn (reads .table)) (repliesIn (reads .table)) (now (covered .entry)) (reads .count) (now (members .exit)) (lensIn (r .table)) (kindsIn (r .table)) (requestsIn (r .table)) (repliesIn (r .table)) (r .count) ⌝ }
+    ensures named { λ r. ⌜ RenamedBy m name reads r ⌝ }
 {
+    let count = reads.count;
     let n = total_members(lens, covered, count);
     if 65535 < n {
-        return count;
+        return reads;
     }
     regroup(members, lens, covered, count);
-    close16(kinds, covered, count, (m.group + 1) as u16);
-    close64(requests, covered, count, m.request);
-    close64(replies, covered, count, m.reply);
-    close16(lens, covered, count, n as u16)
+    let new = Pending {
+        group: (m.group + 1) as u16,
+        start: (name.start % 65536) as u16,
+        end: (name.end % 65536) as u16,
+        count: n as u16,
+        request: m.request,
+        reply: m.reply,
+    };
+    merge(reads, covered, new)
 }
 
-// Merge after merge, while one passes; how many reads there are then.
+// Merge after merge, while one passes.
 fn settle(
     list: &[u8],
     cost: Cost,
@@ -558,19 +566,21 @@ fn settle(
     groups: usize,
     alive: &mut [u8; 8448],
     members: &mut [u8; 256],
-    lens: &mut [u16; 256],
-    kinds: &mut [u16; 256],
-    requests: &mut [u64; 256],
-    replies: &mut [u64; 256],
-    count: usize,
-) -> usize
+    reads: Reads,
+) -> Reads
     requires { ⌜ groups ≤ 8448 ⌝ }
-    ensures { λ r. ⌜ Settled cost (now (list .entry)) (now (places .entry)) (now (indexes .entry)) (now (spellers .entry)) (now (spans .entry)) (now (numbers .entry)) (now (weights .entry)) (now (asks .entry)) (now (stops .entry)) (now (serves .entry)) (now (alive .entry)) groups limit (now (members .entry)) (now (lens .entry)) (now (kinds .entry)) (now (requests .entry)) (now (replies .entry)) count (now (members .exit)) (now (lens .exit)) (now (kinds .exit)) (now (requests .exit)) (now (replies .exit)) r ⌝ }
+    ensures columns { λ r. ⌜ Settled cost (now (list .entry)) (now (places .entry)) (now (indexes .entry)) (now (spellers .entry)) (now (spans .entry)) (now (numbers .entry)) (now (weights .entry)) (now (asks .entry)) (now (stops .entry)) (now (serves .entry)) (now (alive .entry)) groups limit (now (members .entry)) (lensIn (reads .table)) (kindsIn (reads .table)) (requestsIn (reads .table)) (repliesIn (reads .table)) (reads .count) (now (members .exit)) (lensIn (r .table)) (kindsIn (r .table)) (requestsIn (r .table)) (repliesIn (r .table)) (r .count) ⌝ }
+    ensures named { λ r. ⌜ NamesKept (now (list .entry)) (now (places .entry)) (now (spellers .entry)) (now (spans .entry)) reads r ⌝ }
 {
-    let mut covered = [0; 256];
-    let mut n = count;
-    let mut k = count;
+    let mut flags = [0; 256];
+    let mut lens = [0; 256];
+    let mut requests = [0; 256];
+    let mut replies = [0; 256];
+    let mut rs = reads;
+    let mut k = reads.count;
     while 0 < k {
+        let table = rs.table;
+        columns(table, &mut lens, &mut requests, &mut replies);
         let m = next_merge(
             list,
             cost,
@@ -587,17 +597,18 @@ fn settle(
             groups,
             alive,
             members,
-            lens,
-            requests,
-            replies,
-            n,
+            &lens,
+            &requests,
+            &replies,
+            rs.count,
         );
         if m.saved == 0 {
-            return n;
+            return rs;
         }
-        flag_reads(m.group, stops, serves, members, lens, n, &mut covered);
-        n = apply(m, members, lens, kinds, requests, replies, n, &covered);
+        flag_reads(m.group, stops, serves, members, &lens, rs.count, &mut flags);
+        let name = name_of(list, places, spellers, spans, m.group);
+        rs = apply(m, name, rs, members, &lens, &flags);
         k -= 1;
     }
-    n
+    rs
 }

@@ -18,33 +18,62 @@ use lists::check::check_list;
 use lists::read::budget;
 use merging::cover::packets_with;
 use packing::Cost;
+use pending::Pending;
+use pending::Reads;
+use pending::columns;
 use queries::check_catalog;
 ghost use mathlib.Core.Path.{_≡_};
 ghost use Prim.Native.Nat.{_-_, _≤_};
-ghost use lib.ListN.{length, take, replicate};
+ghost use lib.ListN.{length, take, getD};
 ghost use Rattle.fields.specs.Format.{fine};
 ghost use Rattle.fields.specs.Writing.{answered, writing, buffer};
 ghost use Rattle.catalog.specs.Check.{catalogVerdict};
 ghost use Rattle.packing.specs.Packing.{standard, empty};
-ghost use Rattle.lists.specs.Lists.{listVerdict};
+ghost use Rattle.lists.specs.Lists.{listOf, listVerdict};
 ghost use Rattle.candidates.specs.Columns.{positions};
+ghost use Rattle.merging.specs.Columns.{listed};
+ghost use Rattle.planning.specs.Tables.{lensIn, kindsIn, requestsIn, repliesIn, plainRow};
 ghost use Rattle.planning.specs.Merges.{BoundTold};
+ghost use Rattle.planning.specs.Choosing.{NamesKept};
 ghost use Rattle.planning.specs.Planning.{planningVerdict, planFile, Served, Led, Shown};
-ghost use Rattle.planning.specs.Stages.{Even, Accepted, Viewed, Pieced, Rowed, Wholes, Bunched, SettledTold, MergedTold, Planned};
+ghost use Rattle.planning.specs.Stages.{Even, Accepted, Viewed, Pieced, Rowed, Wholes, Bunched, SettledTold, MergedTold, Planned, packetsIn};
 
-// A plain read of each tag: its position, and one of it.
-fn start_plain(tags: usize, members: &mut [u8; 256], lens: &mut [u16; 256])
-    requires { ⌜ tags ≤ 256 ⌝ }
-    ensures { λ r. ⌜ (take tags (now (members .exit)) ≡ positions 0 tags) × (take tags (now (lens .exit)) ≡ replicate tags 1) ⌝ }
+// A plain read, of sizes that are given.
+fn plain_read(request: u64, reply: u64) -> Pending
+    ensures { λ r. ⌜ r ≡ plainRow request reply ⌝ }
 {
+    Pending {
+        group: 0,
+        start: 0,
+        end: 0,
+        count: 1,
+        request,
+        reply,
+    }
+}
+
+// A plain read of each tag, by its sizes; and the positions of the tags.
+fn start_plain(
+    tags: usize,
+    requests: &[u64; 256],
+    replies: &[u64; 256],
+    members: &mut [u8; 256],
+) -> [Pending; 256]
+    requires { ⌜ tags ≤ 256 ⌝ }
+    ensures positions { λ r. ⌜ take tags (now (members .exit)) ≡ positions 0 tags ⌝ }
+    ensures table { λ r. ⌜ take tags r ≡ listed (λ i. plainRow (getD (now (requests .entry)) i 0) (getD (now (replies .entry)) i 0)) 0 tags ⌝ }
+{
+    let asked = &requests[..];
+    let answered = &replies[..];
     let ps = &mut members[..];
-    let ns = &mut lens[..];
+    let mut table = [plain_read(0, 0); 256];
     let mut i = 0;
     while i < tags {
         ps[i] = i as u8;
-        ns[i] = 1;
+        table[i] = plain_read(asked[i], answered[i]);
         i += 1;
     }
+    table
 }
 
 // The bytes of a reply in a packet that holds nothing else.
@@ -59,7 +88,7 @@ fn packet_room(cost: Cost, budget: u16) -> u64
     b - empty
 }
 
-// What is always read together, where it goes into a packet; how many reads there are then.
+// What is always read together, where it goes into a packet; the reads then.
 fn bind_all(
     list: &[u8],
     places: &[usize; 256],
@@ -73,14 +102,11 @@ fn bind_all(
     serves: &[u8; 16640],
     structs: usize,
     members: &mut [u8; 256],
-    lens: &mut [u16; 256],
-    kinds: &mut [u16; 256],
-    requests: &mut [u64; 256],
-    replies: &mut [u64; 256],
-    count: usize,
-) -> usize
+    reads: Reads,
+) -> Reads
     requires { ⌜ structs ≤ 8448 ⌝ }
-    ensures { λ r. ⌜ BoundTold standard (now (list .entry)) (now (places .entry)) (now (indexes .entry)) (now (spellers .entry)) (now (spans .entry)) (now (numbers .entry)) (now (weights .entry)) (now (asks .entry)) (now (stops .entry)) (now (serves .entry)) structs (now (members .entry)) (now (lens .entry)) (now (kinds .entry)) (now (requests .entry)) (now (replies .entry)) count (now (members .exit)) (now (lens .exit)) (now (kinds .exit)) (now (requests .exit)) (now (replies .exit)) r ⌝ }
+    ensures columns { λ r. ⌜ BoundTold standard (now (list .entry)) (now (places .entry)) (now (indexes .entry)) (now (spellers .entry)) (now (spans .entry)) (now (numbers .entry)) (now (weights .entry)) (now (asks .entry)) (now (stops .entry)) (now (serves .entry)) structs (now (members .entry)) (lensIn (reads .table)) (kindsIn (reads .table)) (requestsIn (reads .table)) (repliesIn (reads .table)) (reads .count) (now (members .exit)) (lensIn (r .table)) (kindsIn (r .table)) (requestsIn (r .table)) (repliesIn (r .table)) (r .count) ⌝ }
+    ensures named { λ r. ⌜ NamesKept (now (list .entry)) (now (places .entry)) (now (spellers .entry)) (now (spans .entry)) reads r ⌝ }
 {
     let room = packet_room(Cost::STANDARD, budget(list));
     bind(
@@ -97,15 +123,33 @@ fn bind_all(
         indexes,
         structs,
         members,
-        lens,
-        kinds,
-        requests,
-        replies,
-        count,
+        reads,
     )
 }
 
-// Merge after merge, with packets no more than now; how many reads there are then.
+// How many packets the reads take, within the list's budget.
+fn packet_count(list: &[u8], cost: Cost, reads: Reads) -> u64
+    ensures { λ r. ⌜ r ≡ packetsIn cost (listOf (now (list .entry)) .budget) (reads .table) (reads .count) ⌝ }
+{
+    let nothing = [0; 256];
+    let mut lens = [0; 256];
+    let mut requests = [0; 256];
+    let mut replies = [0; 256];
+    let table = reads.table;
+    columns(table, &mut lens, &mut requests, &mut replies);
+    packets_with(
+        cost,
+        budget(list),
+        &requests,
+        &replies,
+        reads.count,
+        &nothing,
+        0,
+        0,
+    )
+}
+
+// The reads after merge upon merge, with packets no more than now.
 fn settle_all(
     list: &[u8],
     places: &[usize; 256],
@@ -120,18 +164,14 @@ fn settle_all(
     structs: usize,
     groups: usize,
     members: &mut [u8; 256],
-    lens: &mut [u16; 256],
-    kinds: &mut [u16; 256],
-    requests: &mut [u64; 256],
-    replies: &mut [u64; 256],
-    count: usize,
-) -> usize
+    reads: Reads,
+) -> Reads
     requires { ⌜ groups ≤ 8448 ⌝ }
-    ensures { λ r. ⌜ SettledTold (now (list .entry)) (now (places .entry)) (now (indexes .entry)) (now (spellers .entry)) (now (spans .entry)) (now (numbers .entry)) (now (weights .entry)) (now (asks .entry)) (now (stops .entry)) (now (serves .entry)) structs groups (now (members .entry)) (now (lens .entry)) (now (kinds .entry)) (now (requests .entry)) (now (replies .entry)) count (now (members .exit)) (now (lens .exit)) (now (kinds .exit)) (now (requests .exit)) (now (replies .exit)) r ⌝ }
+    ensures columns { λ r. ⌜ SettledTold (now (list .entry)) (now (places .entry)) (now (indexes .entry)) (now (spellers .entry)) (now (spans .entry)) (now (numbers .entry)) (now (weights .entry)) (now (asks .entry)) (now (stops .entry)) (now (serves .entry)) structs groups (now (members .entry)) (lensIn (reads .table)) (kindsIn (reads .table)) (requestsIn (reads .table)) (repliesIn (reads .table)) (reads .count) (now (members .exit)) (lensIn (r .table)) (kindsIn (r .table)) (requestsIn (r .table)) (repliesIn (r .table)) (r .count) ⌝ }
+    ensures named { λ r. ⌜ NamesKept (now (list .entry)) (now (places .entry)) (now (spellers .entry)) (now (spans .entry)) reads r ⌝ }
 {
     let cost = Cost::STANDARD;
-    let nothing = [0; 256];
-    let limit = packets_with(cost, budget(list), requests, replies, count, &nothing, 0, 0);
+    let limit = packet_count(list, cost, reads);
     let mut alive = [0; 8448];
     allow(
         list,
@@ -160,15 +200,11 @@ fn settle_all(
         groups,
         &mut alive,
         members,
-        lens,
-        kinds,
-        requests,
-        replies,
-        count,
+        reads,
     )
 }
 
-// What is always read together, then merge after merge; how many reads there are then.
+// The reads after what is always read together, then after merge upon merge.
 fn merge_all(
     list: &[u8],
     places: &[usize; 256],
@@ -183,14 +219,11 @@ fn merge_all(
     structs: usize,
     groups: usize,
     members: &mut [u8; 256],
-    lens: &mut [u16; 256],
-    kinds: &mut [u16; 256],
-    requests: &mut [u64; 256],
-    replies: &mut [u64; 256],
-    count: usize,
-) -> usize
+    reads: Reads,
+) -> Reads
     requires { ⌜ (structs ≤ 8448) × (groups ≤ 8448) ⌝ }
-    ensures { λ r. ⌜ MergedTold (now (list .entry)) (now (places .entry)) (now (indexes .entry)) (now (spellers .entry)) (now (spans .entry)) (now (numbers .entry)) (now (weights .entry)) (now (asks .entry)) (now (stops .entry)) (now (serves .entry)) structs groups (now (members .entry)) (now (lens .entry)) (now (kinds .entry)) (now (requests .entry)) (now (replies .entry)) count (now (members .exit)) (now (lens .exit)) (now (kinds .exit)) (now (requests .exit)) (now (replies .exit)) r ⌝ }
+    ensures columns { λ r. ⌜ MergedTold (now (list .entry)) (now (places .entry)) (now (indexes .entry)) (now (spellers .entry)) (now (spans .entry)) (now (numbers .entry)) (now (weights .entry)) (now (asks .entry)) (now (stops .entry)) (now (serves .entry)) structs groups (now (members .entry)) (lensIn (reads .table)) (kindsIn (reads .table)) (requestsIn (reads .table)) (repliesIn (reads .table)) (reads .count) (now (members .exit)) (lensIn (r .table)) (kindsIn (r .table)) (requestsIn (r .table)) (repliesIn (r .table)) (r .count) ⌝ }
+    ensures named { λ r. ⌜ NamesKept (now (list .entry)) (now (places .entry)) (now (spellers .entry)) (now (spans .entry)) reads r ⌝ }
 {
     let bound = bind_all(
         list,
@@ -205,11 +238,7 @@ fn merge_all(
         serves,
         structs,
         members,
-        lens,
-        kinds,
-        requests,
-        replies,
-        count,
+        reads,
     );
     settle_all(
         list,
@@ -225,10 +254,6 @@ fn merge_all(
         structs,
         groups,
         members,
-        lens,
-        kinds,
-        requests,
-        replies,
         bound,
     )
 }
@@ -239,8 +264,8 @@ fn start(
     list: &[u8],
     places: &[usize; 256],
     indexes: &[u32; 256],
-    requests: &mut [u64; 256],
-    replies: &mut [u64; 256],
+    requests: &[u64; 256],
+    replies: &[u64; 256],
     spellers: &[u8; 8448],
     spans: &[u8; 8448],
     numbers: &[u16; 8448],
@@ -258,10 +283,8 @@ fn start(
     let mut asks = [0; 8448];
     fill_asks(catalog, list, places, spellers, spans, groups, &mut asks);
     let mut members = [0; 256];
-    let mut lens = [0; 256];
-    let mut kinds = [0; 256];
-    start_plain(tags, &mut members, &mut lens);
-    let n = merge_all(
+    let table = start_plain(tags, requests, replies, &mut members);
+    let reads = merge_all(
         list,
         places,
         indexes,
@@ -275,25 +298,9 @@ fn start(
         structs,
         groups,
         &mut members,
-        &mut lens,
-        &mut kinds,
-        requests,
-        replies,
-        tags,
+        Reads { table, count: tags },
     );
-    write_plan(
-        list,
-        places,
-        indexes,
-        spellers,
-        spans,
-        numbers,
-        &members,
-        &lens,
-        &kinds,
-        n,
-        file,
-    )
+    write_plan(list, places, indexes, numbers, &members, reads, file)
 }
 
 // Runs of elements.
@@ -305,8 +312,8 @@ fn run(
     widths: &[u8; 256],
     indexes: &[u32; 256],
     arrays: &[u8; 256],
-    requests: &mut [u64; 256],
-    replies: &mut [u64; 256],
+    requests: &[u64; 256],
+    replies: &[u64; 256],
     spellers: &mut [u8; 8448],
     spans: &mut [u8; 8448],
     weights: &mut [u16; 8448],
@@ -369,8 +376,8 @@ fn group(
     widths: &[u8; 256],
     indexes: &[u32; 256],
     arrays: &[u8; 256],
-    requests: &mut [u64; 256],
-    replies: &mut [u64; 256],
+    requests: &[u64; 256],
+    replies: &[u64; 256],
     owners: &[u8; 16384],
     lengths: &[u8; 16384],
     sizes: &[u16; 16384],

@@ -1,6 +1,5 @@
 // The plan file: reads that columns tell, written one behind the other.
 use crate::run_name;
-use candidates::name::prefix_at;
 use fields::Numeral;
 use fields::Width;
 use fields::check::text_at;
@@ -9,12 +8,13 @@ use fields::write::put_bytes;
 use fields::write::put_number;
 use names::Step;
 use names::walk::next_token;
+use pending::Reads;
 use plans::write::put_member;
 use plans::write::put_read;
 ghost use mathlib.Core.Path.{_≡_};
 ghost use mathlib.Core.List.{map};
 ghost use Prim.Native.Nat.{_+_, _-_, _≤_, _<_, min, max};
-ghost use lib.ListN.{length, take, getD};
+ghost use lib.ListN.{length};
 ghost use Rattle.fields.specs.Format.{All};
 ghost use Rattle.fields.specs.Places.{part};
 ghost use Rattle.fields.specs.Writing.{patch, answered};
@@ -241,10 +241,10 @@ fn span_of(indexes: &[u32; 256], members: &[u8; 256], from: usize, to: usize) ->
     }
 }
 
-// The read of a struct, whose name ends at a place of a tag's, put at a place; the place past it.
+// The read of a struct, whose name stands at a part of the list, put at a place; the place past it.
 fn write_struct(
     list: &[u8],
-    place: usize,
+    start: usize,
     end: usize,
     places: &[usize; 256],
     members: &[u8; 256],
@@ -253,30 +253,19 @@ fn write_struct(
     file: &mut [u8],
     at: usize,
 ) -> usize
-    requires { ⌜ (from ≤ to) × (to ≤ length (now members)) × StructFit (namesBy (now list) (now places)) (take end (textThere (now list) place)) (part from to (now members)) × (at + length (structBytes (namesBy (now list) (now places)) (take end (textThere (now list) place)) (part from to (now members))) ≤ length (now file)) ⌝ }
-    ensures place { λ r. ⌜ r ≡ at + length (structBytes (namesBy (now (list .entry)) (now (places .entry))) (take end (textThere (now (list .entry)) place)) (part from to (now (members .entry)))) ⌝ }
-    ensures bytes { λ r. ⌜ now (file .exit) ≡ patch (now (file .entry)) at (structBytes (namesBy (now (list .entry)) (now (places .entry))) (take end (textThere (now (list .entry)) place)) (part from to (now (members .entry)))) ⌝ }
+    requires { ⌜ (start ≤ end) × (end ≤ length (now list)) × (from ≤ to) × (to ≤ length (now members)) × StructFit (namesBy (now list) (now places)) (part start end (now list)) (part from to (now members)) × (at + length (structBytes (namesBy (now list) (now places)) (part start end (now list)) (part from to (now members))) ≤ length (now file)) ⌝ }
+    ensures place { λ r. ⌜ r ≡ at + length (structBytes (namesBy (now (list .entry)) (now (places .entry))) (part start end (now (list .entry))) (part from to (now (members .entry)))) ⌝ }
+    ensures bytes { λ r. ⌜ now (file .exit) ≡ patch (now (file .entry)) at (structBytes (namesBy (now (list .entry)) (now (places .entry))) (part start end (now (list .entry))) (part from to (now (members .entry)))) ⌝ }
 {
-    let t = prefix_at(list, place, end);
-    let a = t.start;
-    let b = t.end;
-    put_read(file, at, &list[a..b], (to - from) as u16);
-    write_struct_members(
-        list,
-        places,
-        b - a,
-        members,
-        from,
-        to,
-        file,
-        at + 3 + (b - a),
-    )
+    let size = end - start;
+    put_read(file, at, &list[start..end], (to - from) as u16);
+    write_struct_members(list, places, size, members, from, to, file, at + 3 + size)
 }
 
-// The read of a run, whose array's name ends at a place of a tag's, put at a place; the place past it.
+// The read of a run, whose array's name stands at a part of the list, put at a place; the place past it.
 fn write_run(
     list: &[u8],
-    place: usize,
+    start: usize,
     end: usize,
     places: &[usize; 256],
     indexes: &[u32; 256],
@@ -286,16 +275,13 @@ fn write_run(
     file: &mut [u8],
     at: usize,
 ) -> usize
-    requires { ⌜ (from < to) × (to ≤ length (now members)) × RunFit (namesBy (now list) (now places)) (numbersBy (now indexes)) (take end (textThere (now list) place)) (part from to (now members)) × (at + length (runBytes (namesBy (now list) (now places)) (numbersBy (now indexes)) (take end (textThere (now list) place)) (part from to (now members))) ≤ length (now file)) ⌝ }
-    ensures place { λ r. ⌜ r ≡ at + length (runBytes (namesBy (now (list .entry)) (now (places .entry))) (numbersBy (now (indexes .entry))) (take end (textThere (now (list .entry)) place)) (part from to (now (members .entry)))) ⌝ }
-    ensures bytes { λ r. ⌜ now (file .exit) ≡ patch (now (file .entry)) at (runBytes (namesBy (now (list .entry)) (now (places .entry))) (numbersBy (now (indexes .entry))) (take end (textThere (now (list .entry)) place)) (part from to (now (members .entry)))) ⌝ }
+    requires { ⌜ (start ≤ end) × (end ≤ length (now list)) × (from < to) × (to ≤ length (now members)) × RunFit (namesBy (now list) (now places)) (numbersBy (now indexes)) (part start end (now list)) (part from to (now members)) × (at + length (runBytes (namesBy (now list) (now places)) (numbersBy (now indexes)) (part start end (now list)) (part from to (now members))) ≤ length (now file)) ⌝ }
+    ensures place { λ r. ⌜ r ≡ at + length (runBytes (namesBy (now (list .entry)) (now (places .entry))) (numbersBy (now (indexes .entry))) (part start end (now (list .entry))) (part from to (now (members .entry)))) ⌝ }
+    ensures bytes { λ r. ⌜ now (file .exit) ≡ patch (now (file .entry)) at (runBytes (namesBy (now (list .entry)) (now (places .entry))) (numbersBy (now (indexes .entry))) (part start end (now (list .entry))) (part from to (now (members .entry)))) ⌝ }
 {
-    let t = prefix_at(list, place, end);
-    let a = t.start;
-    let b = t.end;
     let s = span_of(indexes, members, from, to);
     let mut name = [0; 160];
-    let size = run_name(&list[a..b], s.least, s.count, &mut name);
+    let size = run_name(&list[start..end], s.least, s.count, &mut name);
     put_read(file, at, &name[..size], (to - from) as u16);
     write_run_members(
         list,
@@ -310,34 +296,13 @@ fn write_run(
     )
 }
 
-// A group's name, or its array's: where the tag that spells it stands, and where the name ends there; and its number, 0 for a struct.
-struct Group {
-    place: usize,
-    end: usize,
-    number: u16,
-}
-
-// The group of a read of a kind, which is one more than the group's place in the columns.
-fn group_of(
-    places: &[usize; 256],
-    spellers: &[u8; 8448],
-    spans: &[u8; 8448],
-    numbers: &[u16; 8448],
-    kind: usize,
-) -> Group
+// The number of the group of a kind, which is one more than the group's place in the columns.
+fn number_of(numbers: &[u16; 8448], kind: usize) -> u16
     requires { ⌜ kind ≤ 8448 ⌝ }
-    ensures { λ r. ⌜ (r .place ≡ getD (now (places .entry)) (getD (now (spellers .entry)) (kind - 1) 0) 0) × (r .end ≡ getD (now (spans .entry)) (kind - 1) 0) × (r .number ≡ getD (now (numbers .entry)) (kind - 1) 0) ⌝ }
+    ensures { λ r. ⌜ r ≡ numbersBy (now (numbers .entry)) (kind - 1) ⌝ }
 {
-    let ps = &places[..];
-    let ss = &spellers[..];
-    let es = &spans[..];
     let ns = &numbers[..];
-    let j = less_one(kind);
-    Group {
-        place: ps[ss[j] as usize],
-        end: es[j] as usize,
-        number: ns[j],
-    }
+    ns[less_one(kind)]
 }
 
 // A number less 1; 0 stays.
@@ -350,12 +315,15 @@ fn less_one(n: usize) -> usize
     n - 1
 }
 
-// A read of a kind, 0 for a plain one and else that of a group, put at a place; the place past it.
+// A read of a kind, 0 for a plain one and else that of a group with a number, put at a place; the place past it. The name of the group
+// stands at a part of the list.
 fn write_read(
     list: &[u8],
     places: &[usize; 256],
     indexes: &[u32; 256],
-    g: Group,
+    start: usize,
+    end: usize,
+    number: u16,
     kind: usize,
     members: &[u8; 256],
     from: usize,
@@ -363,22 +331,22 @@ fn write_read(
     file: &mut [u8],
     at: usize,
 ) -> usize
-    requires { ⌜ (to ≤ length (now members)) × ReadFit (namesBy (now list) (now places)) (numbersBy (now indexes)) (take (g .end) (textThere (now list) (g .place))) (g .number) kind (part from to (now members)) × (at + length (readBytes (namesBy (now list) (now places)) (numbersBy (now indexes)) (take (g .end) (textThere (now list) (g .place))) (g .number) kind (part from to (now members))) ≤ length (now file)) ⌝ }
-    ensures place { λ r. ⌜ r ≡ at + length (readBytes (namesBy (now (list .entry)) (now (places .entry))) (numbersBy (now (indexes .entry))) (take (g .end) (textThere (now (list .entry)) (g .place))) (g .number) kind (part from to (now (members .entry)))) ⌝ }
-    ensures bytes { λ r. ⌜ now (file .exit) ≡ patch (now (file .entry)) at (readBytes (namesBy (now (list .entry)) (now (places .entry))) (numbersBy (now (indexes .entry))) (take (g .end) (textThere (now (list .entry)) (g .place))) (g .number) kind (part from to (now (members .entry)))) ⌝ }
+    requires { ⌜ (start ≤ end) × (end ≤ length (now list)) × (to ≤ length (now members)) × ReadFit (namesBy (now list) (now places)) (numbersBy (now indexes)) (part start end (now list)) number kind (part from to (now members)) × (at + length (readBytes (namesBy (now list) (now places)) (numbersBy (now indexes)) (part start end (now list)) number kind (part from to (now members))) ≤ length (now file)) ⌝ }
+    ensures place { λ r. ⌜ r ≡ at + length (readBytes (namesBy (now (list .entry)) (now (places .entry))) (numbersBy (now (indexes .entry))) (part start end (now (list .entry))) number kind (part from to (now (members .entry)))) ⌝ }
+    ensures bytes { λ r. ⌜ now (file .exit) ≡ patch (now (file .entry)) at (readBytes (namesBy (now (list .entry)) (now (places .entry))) (numbersBy (now (indexes .entry))) (part start end (now (list .entry))) number kind (part from to (now (members .entry)))) ⌝ }
 {
     if kind == 0 {
         let ps = &places[..];
         let ms = &members[..];
         return write_plain(list, ps[ms[from] as usize], file, at);
     }
-    if g.number == 0 {
-        return write_struct(list, g.place, g.end, places, members, from, to, file, at);
+    if number == 0 {
+        return write_struct(list, start, end, places, members, from, to, file, at);
     }
     write_run(
         list,
-        g.place,
-        g.end,
+        start,
+        end,
         places,
         indexes,
         members,
@@ -394,31 +362,41 @@ pub(crate) fn write_plan(
     list: &[u8],
     places: &[usize; 256],
     indexes: &[u32; 256],
-    spellers: &[u8; 8448],
-    spans: &[u8; 8448],
     numbers: &[u16; 8448],
     members: &[u8; 256],
-    lens: &[u16; 256],
-    kinds: &[u16; 256],
-    count: usize,
+    reads: Reads,
     file: &mut [u8; 65536],
 ) -> usize
-    requires { ⌜ Telling (now list) (now places) (now indexes) (now spellers) (now spans) (now numbers) (now members) (now lens) (now kinds) count ⌝ }
-    ensures { λ r. ⌜ PlanWritten (now (list .entry)) (now (places .entry)) (now (indexes .entry)) (now (spellers .entry)) (now (spans .entry)) (now (numbers .entry)) (now (members .entry)) (now (lens .entry)) (now (kinds .entry)) count (now (file .entry)) (now (file .exit)) r ⌝ }
+    requires { ⌜ Telling (now list) (now places) (now indexes) (now numbers) (now members) (reads .table) (reads .count) ⌝ }
+    ensures { λ r. ⌜ PlanWritten (now (list .entry)) (now (places .entry)) (now (indexes .entry)) (now (numbers .entry)) (now (members .entry)) (reads .table) (reads .count) (now (file .entry)) (now (file .exit)) r ⌝ }
 {
     let out = &mut file[..];
-    let ls = &lens[..];
-    let ks = &kinds[..];
+    let table = reads.table;
+    let count = reads.count;
     put_number(out, 0, Width::One, 1);
     put_number(out, 1, Width::Two, count as u64);
     let mut at = 3;
     let mut p = 0;
     let mut i = 0;
     while i < count {
-        let kind = ks[i] as usize;
-        let to = p + ls[i] as usize;
-        let g = group_of(places, spellers, spans, numbers, kind);
-        at = write_read(list, places, indexes, g, kind, members, p, to, out, at);
+        let read = table[i];
+        let kind = read.group as usize;
+        let to = p + read.count as usize;
+        let number = number_of(numbers, kind);
+        at = write_read(
+            list,
+            places,
+            indexes,
+            read.start as usize,
+            read.end as usize,
+            number,
+            kind,
+            members,
+            p,
+            to,
+            out,
+            at,
+        );
         p = to;
         i += 1;
     }

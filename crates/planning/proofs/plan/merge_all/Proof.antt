@@ -11,7 +11,7 @@ settle-all-requires : tie.Need-settle-all-requires
 settle-all-requires c κs = search needs
 
 returns : tie.Need-returns
-returns c = merge-told _ _ _ _ _ _ _ _ _ _ _ _ _ _ _ _ _ _ _ _ _ _ _ _ _ _ _ _ _ _ (c .before .before .before .before .before .before .bind-all .ensures) (c .settle-all .ensures)
+returns c = (merge-told _ _ _ _ _ _ _ _ _ _ _ _ _ _ _ _ _ _ _ _ _ _ _ _ _ _ _ _ _ _ (c .before .before .bind-all .ensures .0) (c .settle-all .ensures .0), λ h. c .settle-all .ensures .1 (c .before .before .bind-all .ensures .1 h))
 
 pub merge-all-spec : {M : Type 1} → statement M
 merge-all-spec = tie.close (tie.spec bind-all-requires settle-all-requires returns)

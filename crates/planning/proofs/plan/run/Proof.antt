@@ -12,7 +12,7 @@ run-groups-requires : tie.Need-run-groups-requires
 run-groups-requires c κs = search needs
 
 start-requires : tie.Need-start-requires
-start-requires c κs = (c .before .before .before .before .before .before .before .before .before .before .before .before .before .before .before .before .before .before .before .before .pre .0, run-told _ _ _ _ _ _ _ (c .before .before .before .before .before .before .before .before .before .before .before .before .before .before .before .before .before .before .before .before .pre .1) _ _ _ (c .before .before .before .before .before .before .before .before .before .before .before .before .before .before .before .before .before .before .before .before .pre .0) _ _ _ _ _ _ (c .before .before .before .before .before .before .before .before .before .before .before .before .before .before .before .before .before .before .before .before .pre .2) _ (c .before .before .before .before .before .before .before .before .before .before .before .before .before .before .before .before .serve-start .ensures) 8448 _ _ _ _ _ _ _ (omega arith) (c .before .before .before .before .before .before .before .before .before .run-groups .ensures .0 .0) (c .before .before .before .before .before .before .before .before .before .run-groups .ensures .1 .0) (c .before .before .before .before .before .before .before .before .before .run-groups .ensures .1 .1 .0) (c .before .before .before .before .before .before .before .before .before .run-groups .ensures .1 .1 .1 .0) (c .before .before .before .before .before .before .before .before .before .run-groups .ensures .1 .1 .1 .1 .0) (c .before .before .before .before .before .before .before .before .before .run-groups .ensures .1 .1 .1 .1 .1 .0) (c .before .before .before .before .before .before .before .before .before .run-groups .ensures .1 .1 .1 .1 .1 .1))
+start-requires c κs = (c .before .before .before .before .before .before .before .before .before .before .before .before .before .before .before .before .before .before .pre .0, run-told _ _ _ _ _ _ _ (c .before .before .before .before .before .before .before .before .before .before .before .before .before .before .before .before .before .before .pre .1) _ _ _ (c .before .before .before .before .before .before .before .before .before .before .before .before .before .before .before .before .before .before .pre .0) _ _ _ _ _ _ (c .before .before .before .before .before .before .before .before .before .before .before .before .before .before .before .before .before .before .pre .2) _ (c .before .before .before .before .before .before .before .before .before .before .before .before .before .before .serve-start .ensures) 8448 _ _ _ _ _ _ _ (omega arith) (c .before .before .before .before .before .before .before .run-groups .ensures .0 .0) (c .before .before .before .before .before .before .before .run-groups .ensures .1 .0) (c .before .before .before .before .before .before .before .run-groups .ensures .1 .1 .0) (c .before .before .before .before .before .before .before .run-groups .ensures .1 .1 .1 .0) (c .before .before .before .before .before .before .before .run-groups .ensures .1 .1 .1 .1 .0) (c .before .before .before .before .before .before .before .run-groups .ensures .1 .1 .1 .1 .1 .0) (c .before .before .before .before .before .before .before .run-groups .ensures .1 .1 .1 .1 .1 .1))
 
 returns : tie.Need-returns
 returns c = c .start .ensures

@@ -4,11 +4,8 @@ use Rattle.planning.proofs.Stages.{settle-told}
 use Rattle.planning.proofs.plan.settle_all.Statement.{statement}
 use Rattle.planning.proofs.plan.settle_all.Tie as tie
 
-budget-requires : tie.Need-budget-requires
-budget-requires c κs = search needs
-
-packets-with-requires : tie.Need-packets-with-requires
-packets-with-requires c κs = search needs
+packet-count-requires : tie.Need-packet-count-requires
+packet-count-requires c κs = search needs
 
 allow-requires : tie.Need-allow-requires
 allow-requires c κs = search needs
@@ -17,7 +14,7 @@ settle-requires : tie.Need-settle-requires
 settle-requires c κs = search needs
 
 returns : tie.Need-returns
-returns c = settle-told _ _ _ _ _ _ _ _ _ _ _ _ _ _ _ _ _ _ _ _ _ _ _ _ _ _ _ _ (c .before .before .before .before .before .before .before .before .before .before .before .before .before .budget .ensures) (c .before .before .before .before .before .before .before .before .before .packets-with .ensures) (c .before .before .before .before .before .before .before .allow .ensures) (c .settle .ensures)
+returns c = (settle-told _ _ _ _ _ _ _ _ _ _ _ _ _ (c .before .before .before .before .before .before .before .args .reads .table) _ _ _ _ _ _ _ _ _ (c .before .before .before .before .before .packet-count .ensures) (c .before .before .before .allow .ensures) (c .settle .ensures .0), c .settle .ensures .1)
 
 pub settle-all-spec : {M : Type 1} → statement M
-settle-all-spec = tie.close (tie.spec budget-requires packets-with-requires allow-requires settle-requires returns)
+settle-all-spec = tie.close (tie.spec packet-count-requires allow-requires settle-requires returns)

@@ -1,14 +1,12 @@
 -- `write_run` meets its contract: the head with the name of the run, then the members.
 use native.Mathlib.Omega.{arith}
+use mathlib.Core.Path.{refl}
 use denote.Ref.{now}
 use borrow.Author.Needs.{needs}
-use Rattle.planning.proofs.Heads.{prefix-there, prefix-short, run-room, run-put, part-long}
 use Rattle.planning.proofs.Putting.{answer-count}
+use Rattle.planning.proofs.Heads.{run-room, run-put, part-long}
 use Rattle.planning.proofs.write.write_run.Statement.{statement}
 use Rattle.planning.proofs.write.write_run.Tie as tie
-
-prefix-at-requires : tie.Need-prefix-at-requires
-prefix-at-requires c κs = search needs
 
 span-of-requires : tie.Need-span-of-requires
 span-of-requires c κs = search needs
@@ -23,7 +21,7 @@ part-run-name-end : tie.Need-part-run-name-end
 part-run-name-end c = search needs
 
 run-name-requires : tie.Need-run-name-requires
-run-name-requires c κs = prefix-short _ _ _ _ (c .before .before .before .prefix-at .ensures .0) _ (c .before .before .before .before .before .before .pre .2 .short)
+run-name-requires c κs = c .before .before .before .before .before .pre .4 .short
 
 array-share-prefix-name : tie.Need-array-share-prefix-name
 array-share-prefix-name c = answer-count _ _ _ _ (c .before .run-name .ensures .1) (c .before .run-name .ensures .0 .0) .0
@@ -35,7 +33,7 @@ sub-put-read : tie.Need-sub-put-read
 sub-put-read c = search needs
 
 cast-put-read : tie.Need-cast-put-read
-cast-put-read c = let h = c .before .before .before .before .before .before .before .before .before .pre .0 in let n = part-long (now (c .before .before .before .before .before .before .before .before .before .args .members)) (c .before .before .before .before .before .before .before .before .before .args .from) (c .before .before .before .before .before .before .before .before .before .args .to) (omega arith) (c .before .before .before .before .before .before .before .before .before .pre .1) in let f = c .before .before .before .before .before .before .before .before .before .pre .2 .few in omega arith
+cast-put-read c = let h = c .before .before .before .before .before .before .before .before .pre .2 in let n = part-long (now (c .before .before .before .before .before .before .before .before .args .members)) (c .before .before .before .before .before .before .before .before .args .from) (c .before .before .before .before .before .before .before .before .args .to) (omega arith) (c .before .before .before .before .before .before .before .before .pre .3) in let f = c .before .before .before .before .before .before .before .before .pre .4 .few in omega arith
 
 put-read-requires : tie.Need-put-read-requires
 put-read-requires c κs = search needs
@@ -47,19 +45,18 @@ add-write-run-members-2 : tie.Need-add-write-run-members-2
 add-write-run-members-2 c = search needs
 
 write-run-members-requires : tie.Need-write-run-members-requires
-write-run-members-requires c κs = let r = run-room _ _ _ _ _ _ _ _ (prefix-there _ _ _ _ (c .before .before .before .before .before .before .before .before .before .before .prefix-at .ensures .0)) (c .before .before .before .before .before .before .before .before .before .span-of .ensures) (c .before .before .before .before .before .before .before .before .before .before .before .before .before .pre .2) _ (c .before .before .before .before .before .before .run-name .ensures .0) _ (c .before .before .before .before .before .before .before .before .before .before .before .before .before .pre .3) in (c .before .before .before .before .before .before .before .before .before .before .before .before .before .pre .1, r .0, omega (arith, r .1, c .before .before .before .put-read .kept))
+write-run-members-requires c κs = let r = run-room _ _ _ _ _ _ _ _ refl (c .before .before .before .before .before .before .before .before .before .span-of .ensures) (c .before .before .before .before .before .before .before .before .before .before .before .before .pre .4) _ (c .before .before .before .before .before .before .run-name .ensures .0) _ (c .before .before .before .before .before .before .before .before .before .before .before .before .pre .5) in (c .before .before .before .before .before .before .before .before .before .before .before .before .pre .3, r .0, omega (arith, r .1, c .before .before .before .put-read .kept))
 
 same-length : tie.Need-same-length
 same-length c = search needs
 
 returns : tie.Need-returns
-returns c = let h = c .before .before .before .before .before .before .before .before .before .before .before .before .before .before .before .before .pre .0 in let n = part-long (now (c .before .before .before .before .before .before .before .before .before .before .before .before .before .before .before .before .args .members)) (c .before .before .before .before .before .before .before .before .before .before .before .before .before .before .before .before .args .from) (c .before .before .before .before .before .before .before .before .before .before .before .before .before .before .before .before .args .to) (omega arith) (c .before .before .before .before .before .before .before .before .before .before .before .before .before .before .before .before .pre .1) in run-put _ _ _ _ _ _ _ _ (prefix-there _ _ _ _ (c .before .before .before .before .before .before .before .before .before .before .before .before .before .prefix-at .ensures .0)) (c .before .before .before .before .before .before .before .before .before .before .before .before .span-of .ensures) (c .before .before .before .before .before .before .before .before .before .before .before .before .before .before .before .before .pre .2) _ (c .before .before .before .before .before .before .before .before .before .run-name .ensures .0) _ _ _ _ _ _ _ (c .before .before .before .before .before .before .before .before .before .run-name .ensures .1) n (c .before .before .before .before .before .before .before .before .before .before .before .before .before .before .before .before .pre .3) (c .before .before .before .before .before .before .put-read .ensures) (c .before .before .write-run-members .ensures .0) (c .before .before .write-run-members .ensures .1)
+returns c = let h = c .before .before .before .before .before .before .before .before .before .before .before .before .before .before .before .pre .2 in let n = part-long (now (c .before .before .before .before .before .before .before .before .before .before .before .before .before .before .before .args .members)) (c .before .before .before .before .before .before .before .before .before .before .before .before .before .before .before .args .from) (c .before .before .before .before .before .before .before .before .before .before .before .before .before .before .before .args .to) (omega arith) (c .before .before .before .before .before .before .before .before .before .before .before .before .before .before .before .pre .3) in run-put _ _ _ _ _ _ _ _ refl (c .before .before .before .before .before .before .before .before .before .before .before .before .span-of .ensures) (c .before .before .before .before .before .before .before .before .before .before .before .before .before .before .before .pre .4) _ (c .before .before .before .before .before .before .before .before .before .run-name .ensures .0) _ _ _ _ _ _ _ (c .before .before .before .before .before .before .before .before .before .run-name .ensures .1) n (c .before .before .before .before .before .before .before .before .before .before .before .before .before .before .before .pre .5) (c .before .before .before .before .before .before .put-read .ensures) (c .before .before .write-run-members .ensures .0) (c .before .before .write-run-members .ensures .1)
 
 pub write-run-spec : {M : Type 1} → statement M
 write-run-spec =
     tie.close
     (tie.spec
-    prefix-at-requires
     span-of-requires
     sub-run-name
     part-run-name-start
