@@ -1,12 +1,12 @@
 -- A whole file of 01: not over its limit, version byte 1, its fields, and nothing behind them.
 -- Assumes nothing: these are definitions.
-use Prim.Native.Nat.{ℕ}
+use Prim.Native.Nat.{ℕ, min}
 use mathlib.Core.Bool.{cond}
 use mathlib.Core.List.{List, _∷_}
 use lib.ListN.{length, drop, getD}
 use lib.Dec.{ltb, eqb}
 use Rattle.fields.specs.Format.{Verdict, fine, bad, first, Answer, Format}
-use Rattle.fields.specs.declared.Refusal.the-variants.{FileTooLong, BadVersion, OutOfFile}
+use Rattle.fields.specs.declared.Refusal.the-variants.{FileTooLong, BadVersion, OutOfFile, CountsDiffer}
 
 -- 01, table: 1, then 2
 unfoldable pub openingCheck : ℕ → List ℕ → Verdict
@@ -31,3 +31,7 @@ fileOf f s = f .read (drop 1 s) 1 .value
 -- 01: "Every file starts with version byte 1"
 unfoldable pub fileLay : {A : Type 0} → Format A → A → List ℕ
 fileLay f a = 1 ∷ f .lay a
+
+-- 01, table, 11: "results against reads, or two size tables, differ in count", the smaller one
+unfoldable pub countsVerdict : ℕ → ℕ → Verdict
+countsVerdict n m = cond (eqb n m) fine (bad (CountsDiffer (min n m)))

@@ -16,7 +16,7 @@ use Rattle.fields.proofs.Checks.{part-text}
 use Rattle.catalog.specs.Catalog.{Catalog}
 use Rattle.sizes.specs.Told.{boundedSize}
 use Rattle.sizes.specs.declared.Size.{Size as Told}
-use Rattle.plans.specs.Plans.{read, planOf}
+use Rattle.plans.specs.Plans.{read, readsOf}
 use Rattle.plans.proofs.Access.{reads-are, read-name}
 use Rattle.plans.proofs.Round.{lawful-read}
 use Rattle.groups.specs.Told.{requestIn, replyIn, columnOf, Sized}
@@ -25,7 +25,7 @@ use Rattle.groups.specs.Told.{requestIn, replyIn, columnOf, Sized}
 module _ (f : Told → ℕ) (c : Catalog) (s : List ℕ) where
   -- of `n` reads `i` are in the table `t`, and the others stand from the place `at` on
   abbrev Column : ℕ → List ℕ → ℕ → ℕ → Type 0
-  Column n t at i = take i t ++ columnOf f c (valueAt (many read (n - i)) s at) ≡ columnOf f c (planOf s)
+  Column n t at i = take i t ++ columnOf f c (valueAt (many read (n - i)) s at) ≡ columnOf f c (readsOf s)
 
   column-start : (n : ℕ) (t : List ℕ) (at : ℕ) → n ≡ valueAt (number 2 256) s 1 → at ≡ placeAt (number 2 256) s 1 → Column n t at 0
   column-start n t at e g = let z : n - 0 ≡ n = omega arith in rw (z, e, g) (ap (columnOf f c) (sym (reads-are s)))
@@ -40,7 +40,7 @@ module _ (f : Told → ℕ) (c : Catalog) (s : List ℕ) where
         let v : columnOf f c (valueAt (many read (n - i)) s at) ≡ f z ∷ left = rw (many-value-more read s at (n - i) lawful-read (omega arith), d, e, g) in
         ap (λ x. x ++ left) m ∙ append-assoc (take i t) (f z ∷ []) left ∙ ap (λ x. take i t ++ x) (sym v) ∙ k
 
-    column-end : n ≤ i → take i t ≡ columnOf f c (planOf s)
+    column-end : n ≤ i → take i t ≡ columnOf f c (readsOf s)
     unfolding columnOf
     column-end h = sym (append-nil (take i t)) ∙ ap (λ x. take i t ++ columnOf f c x) (sym (many-value-none read s at (n - i) (omega arith))) ∙ k
 
@@ -52,7 +52,7 @@ pub record Sizing (c : Catalog) (s : List ℕ) (n : ℕ) (requests replies : Lis
   pub requested : Column requestIn c s n requests at i
   pub replied : Column replyIn c s n replies at i
 
-module _ (c : Catalog) (s : List ℕ) (n : ℕ) (e : (n ≡ length (planOf s)) × (n ≡ valueAt (number 2 256) s 1) × (n ≤ 256)) (requests replies : List ℕ) (at : ℕ) where
+module _ (c : Catalog) (s : List ℕ) (n : ℕ) (e : (n ≡ length (readsOf s)) × (n ≡ valueAt (number 2 256) s 1) × (n ≤ 256)) (requests replies : List ℕ) (at : ℕ) where
   pub sizing-start : at ≡ placeAt (number 2 256) s 1 → (length requests ≡ 256) × (length replies ≡ 256) → Sizing c s n requests replies at 0
   sizing-start g w = record {
     within = omega arith;
@@ -80,7 +80,7 @@ module _ (c : Catalog) (s : List ℕ) (n : ℕ) (e : (n ≡ length (planOf s)) �
           replied = column-next replyIn c s n replies at i (k .replied) at′ z h (r .1) x g;
         }
 
-    pub sizing-end : n ≤ i → Sized c (planOf s) requests replies n
+    pub sizing-end : n ≤ i → Sized c (readsOf s) requests replies n
     sizing-end h =
         let w = k .within in
         let m : n ≡ i = omega arith in

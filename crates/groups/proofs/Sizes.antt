@@ -25,10 +25,11 @@ use Rattle.sizes.specs.Sizes.{Size}
 use Rattle.sizes.specs.Told.{largestCount, sizeTold, boundedSize}
 use Rattle.sizes.specs.declared.Size.{Size as Told}
 use Rattle.sizes.proofs.Bounds.{read-bound}
-use Rattle.plans.specs.Plans.{Read, read, plan, longestPlan, planOf, planVerdict}
+use Rattle.plans.specs.Plans.{Read, read, plan, longestPlan, readsOf, planVerdict}
 use Rattle.plans.proofs.Round.{lawful-plan}
 use Rattle.packing.specs.Packing.{standard, groupsFile}
-use Rattle.packing.specs.Tables.{sizesOf, largestEntry, mostEntries, entriesVerdict, tableVerdict, countsVerdict, tablesVerdict}
+use Rattle.fields.specs.Files.{countsVerdict}
+use Rattle.packing.specs.Tables.{sizesOf, largestEntry, mostEntries, entriesVerdict, tableVerdict, tablesVerdict}
 use Rattle.packing.proofs.Checking.{Small, told-fine}
 use Rattle.packing.proofs.Filing.{refused}
 use Rattle.sizes.proofs.Counts.{size-is}
@@ -89,17 +90,17 @@ within-named : (r : Read) → read .within r → Named r
 unfolding read mapped _then_ indexedText
 within-named r w = (w .0 .0, w .0 .2)
 
-plan-within : (s : List ℕ) → Bytes s → planVerdict s ≡ fine → plan .within (planOf s)
-unfolding planVerdict planOf fileCheck fieldsCheck fileOf
+plan-within : (s : List ℕ) → Bytes s → planVerdict s ≡ fine → plan .within (readsOf s)
+unfolding planVerdict readsOf fileCheck fieldsCheck fileOf
 plan-within s b e =
     let a = plan .read (drop 1 s) 1 in
     let o = first-fine (openingCheck longestPlan s) (fieldsCheck a) e in
     let u = first-fine (a .verdict) (endingCheck (a .rest) (a .place)) (o .1) in
     lawful-plan .limits (drop 1 s) 1 (bytes-after (take 1 s) (drop 1 s) s (take-append-drop 1 s) b) (u .0)
 
-plan-named : (s : List ℕ) → Bytes s → planVerdict s ≡ fine → All Named (planOf s)
+plan-named : (s : List ℕ) → Bytes s → planVerdict s ≡ fine → All Named (readsOf s)
 unfolding counted leading many
-plan-named s b e = all-weaken (read .within) Named (planOf s) within-named (plan-within s b e .1 .1)
+plan-named s b e = all-weaken (read .within) Named (readsOf s) within-named (plan-within s b e .1 .1)
 
 -- ---- the answers
 module _ (b : ℕ) (c s old : List ℕ) where
@@ -118,16 +119,16 @@ module _ (b : ℕ) (c s old : List ℕ) where
         refused (groupsVerdict c s) (length s) r (planGroups standard b c s) old
         (told-good (catalogVerdict c) (planVerdict s) (length c) (length s) p e .0 ∙ f)
 
-    module _ (y : Bytes s) (q : ℕ) (f : told (planVerdict s) (length s) ≡ Good q) (requests replies : List ℕ) (n : ℕ) (z : Sized (catalogOf c) (planOf s) requests replies n) where
+    module _ (y : Bytes s) (q : ℕ) (f : told (planVerdict s) (length s) ≡ Good q) (requests replies : List ℕ) (n : ℕ) (z : Sized (catalogOf c) (readsOf s) requests replies n) where
       inputs-fine : groupsVerdict c s ≡ fine
       unfolding groupsVerdict first
       inputs-fine = rw (told-fine (catalogVerdict c) (length c) p e .0) (told-fine (planVerdict s) (length s) q f .0)
 
       tables-fine : tablesVerdict (take n requests) (take n replies) ≡ fine
-      tables-fine = let h = z .few in let k = z .count in ap₂ tablesVerdict (z .requested) (z .replied) ∙ columns-pass c (planOf s) (omega arith)
+      tables-fine = let h = z .few in let k = z .count in ap₂ tablesVerdict (z .requested) (z .replied) ∙ columns-pass c (readsOf s) (omega arith)
 
-      sizes-are : sizesOf (take n requests) (take n replies) ≡ readSizes (catalogOf c) (planOf s)
-      sizes-are = ap₂ sizesOf (z .requested) (z .replied) ∙ columns-are (catalogOf c) (planOf s) (plan-named s y (told-fine (planVerdict s) (length s) q f .0))
+      sizes-are : sizesOf (take n requests) (take n replies) ≡ readSizes (catalogOf c) (readsOf s)
+      sizes-are = ap₂ sizesOf (z .requested) (z .replied) ∙ columns-are (catalogOf c) (readsOf s) (plan-named s y (told-fine (planVerdict s) (length s) q f .0))
 
       file-is : groupsFile standard b (sizesOf (take n requests) (take n replies)) ≡ planGroups standard b c s
       unfolding planGroups

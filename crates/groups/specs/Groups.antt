@@ -6,7 +6,7 @@ use Rattle.fields.specs.Format.{Verdict, first}
 use Rattle.catalog.specs.Catalog.{Catalog, catalogOf}
 use Rattle.catalog.specs.Check.{catalogVerdict}
 use Rattle.sizes.specs.Sizes.{Size, readSize}
-use Rattle.plans.specs.Plans.{Read, planOf, planVerdict}
+use Rattle.plans.specs.Plans.{Read, readsOf, planVerdict}
 use Rattle.packing.specs.declared.Cost.{Cost}
 use Rattle.packing.specs.Packing.{groupsFile}
 
@@ -21,4 +21,4 @@ groupsVerdict catalog plan = first (catalogVerdict catalog) (planVerdict plan)
 
 -- planner.rs `chunks`: the groups file of a plan's reads
 unfoldable pub planGroups : Cost → ℕ → List ℕ → List ℕ → List ℕ
-planGroups c b catalog plan = groupsFile c b (readSizes (catalogOf catalog) (planOf plan))
+planGroups c b catalog plan = groupsFile c b (readSizes (catalogOf catalog) (readsOf plan))

@@ -13,7 +13,7 @@ ghost use mathlib.Core.Path.{_≡_};
 ghost use lib.ListN.{length};
 ghost use Rattle.fields.specs.Writing.{writing, buffer};
 ghost use Rattle.catalog.specs.Catalog.{catalogOf};
-ghost use Rattle.plans.specs.Plans.{planOf};
+ghost use Rattle.plans.specs.Plans.{readsOf};
 ghost use Rattle.packing.specs.Packing.{standard};
 ghost use Rattle.groups.specs.Groups.{groupsVerdict, planGroups};
 ghost use Rattle.groups.specs.Told.{Sized};
@@ -21,7 +21,7 @@ ghost use Rattle.groups.specs.Told.{Sized};
 // Writes down the sizes of the reads, and tells how many there are.
 fn size_reads(catalog: &[u8], plan: &[u8], requests: &mut [u64], replies: &mut [u64]) -> usize
     requires { ⌜ (length (now requests) ≡ 256) × (length (now replies) ≡ 256) ⌝ }
-    ensures { λ r. ⌜ Sized (catalogOf (now (catalog .entry))) (planOf (now (plan .entry))) (now (requests .exit)) (now (replies .exit)) r ⌝ }
+    ensures { λ r. ⌜ Sized (catalogOf (now (catalog .entry))) (readsOf (now (plan .entry))) (now (requests .exit)) (now (replies .exit)) r ⌝ }
 {
     let count = read_count(plan);
     let mut at = reads_start(plan);

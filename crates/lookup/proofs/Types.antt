@@ -36,10 +36,6 @@ types-counted s w from n e = ap (λ x. find (isNamedAt s w) (placesFrom typeDef 
 
 -- ---- where the types start, the searches are those of the file
 module _ (s : List ℕ) (from : ℕ) (e : from ≡ typesStart s) where
-  pub type-place-in : (t : Text) → typePlaceIn s from t ≡ typePlace s t
-  unfolding typePlace
-  type-place-in t = ap (λ i. typePlaceIn s i t) e
-
   pub member-place-in : (p : ℕ) (a : Text) → memberPlaceIn s from p a ≡ memberPlace s p a
   unfolding memberPlace
   member-place-in p a = ap (λ i. memberPlaceIn s i p a) e

@@ -49,15 +49,6 @@ module _ (t : Text) where
       go true x f = absurd (Option·none-ne-some i (sym x))
       go false x f = f x
 
--- the type of a name is the one at its number
-pub named-at : (c : Catalog) (t : Text) (u : ℕ) → typeIndex t (c .types) 0 ≡ some u → (typeNamed c t ≡ getElem? (c .types) u) × (u < length (c .types))
-unfolding typeNamed
-named-at c t u e =
-    let r = index-there t (c .types) 0 u e in
-    let z : u - 0 ≡ u = omega arith in
-    let a = r .4 in
-    (r .1 ∙ sym (rw z at (r .2)), omega arith)
-
 module _ (c : Catalog) (m : Node) where
   pub member-there : (u : ℕ) → memberIndex c m ≡ some u → (e : TypeDef) × (memberType c m ≡ some e) × (getElem? (c .types) u ≡ some e) × (u < length (c .types))
   unfolding memberIndex memberType typeNamed

@@ -15,7 +15,8 @@ use Rattle.fields.specs.declared.Refusal.the-variants.{OverLimit, CountsDiffer}
 use Rattle.fields.specs.declared.Checked.the-variants.{Good, Refused}
 use Rattle.fields.proofs.Lists.{drop-next, drop-past}
 use Rattle.fields.proofs.Chains.{told-bad, told-good}
-use Rattle.packing.specs.Tables.{largestEntry, mostEntries, entriesVerdict, tableVerdict, countsVerdict, tablesVerdict}
+use Rattle.fields.specs.Files.{countsVerdict}
+use Rattle.packing.specs.Tables.{largestEntry, mostEntries, entriesVerdict, tableVerdict, tablesVerdict}
 
 -- ---- one table
 
@@ -58,28 +59,28 @@ module _ (t : List ℕ) (i : ℕ) (v : Checking t i) where
 module _ (t u : List ℕ) where
   pub tables-first : (r : Refusal) → told (tableVerdict t) (length t) ≡ Refused r → Refused r ≡ told (tablesVerdict t u) (length t)
   unfolding tablesVerdict
-  tables-first r e = sym (told-bad (tableVerdict t) (first (tableVerdict u) (countsVerdict t u)) (length t) (length t) r e)
+  tables-first r e = sym (told-bad (tableVerdict t) (first (tableVerdict u) (countsVerdict (length t) (length u))) (length t) (length t) r e)
 
   module _ (p : ℕ) (e : told (tableVerdict t) (length t) ≡ Good p) where
-    tables-behind : told (tablesVerdict t u) (length t) ≡ told (first (tableVerdict u) (countsVerdict t u)) (length t)
+    tables-behind : told (tablesVerdict t u) (length t) ≡ told (first (tableVerdict u) (countsVerdict (length t) (length u))) (length t)
     unfolding tablesVerdict
-    tables-behind = told-good (tableVerdict t) (first (tableVerdict u) (countsVerdict t u)) (length t) (length t) p e .0
+    tables-behind = told-good (tableVerdict t) (first (tableVerdict u) (countsVerdict (length t) (length u))) (length t) (length t) p e .0
 
     pub tables-second : (r : Refusal) → told (tableVerdict u) (length u) ≡ Refused r → Refused r ≡ told (tablesVerdict t u) (length t)
-    tables-second r f = sym (tables-behind ∙ told-bad (tableVerdict u) (countsVerdict t u) (length u) (length t) r f)
+    tables-second r f = sym (tables-behind ∙ told-bad (tableVerdict u) (countsVerdict (length t) (length u)) (length u) (length t) r f)
 
     module _ (q : ℕ) (f : told (tableVerdict u) (length u) ≡ Good q) where
-      tables-counts : told (tablesVerdict t u) (length t) ≡ told (countsVerdict t u) (length t)
-      tables-counts = tables-behind ∙ told-good (tableVerdict u) (countsVerdict t u) (length u) (length t) q f .0
+      tables-counts : told (tablesVerdict t u) (length t) ≡ told (countsVerdict (length t) (length u)) (length t)
+      tables-counts = tables-behind ∙ told-good (tableVerdict u) (countsVerdict (length t) (length u)) (length u) (length t) q f .0
 
       pub tables-same : length t ≡ length u → Good (length t) ≡ told (tablesVerdict t u) (length t)
       unfolding countsVerdict told
-      tables-same s = let w : told (countsVerdict t u) (length t) ≡ Good (length t) = rw (eq-eqb (length t) (length u) s) in sym (tables-counts ∙ w)
+      tables-same s = let w : told (countsVerdict (length t) (length u)) (length t) ≡ Good (length t) = rw (eq-eqb (length t) (length u) s) in sym (tables-counts ∙ w)
 
       pub tables-differ : (length t ≡ length u → ⊥) → (n : ℕ) → n ≡ min (length t) (length u) → Refused (CountsDiffer n) ≡ told (tablesVerdict t u) (length t)
       unfolding countsVerdict told
       tables-differ s n m =
-          let w : told (countsVerdict t u) (length t) ≡ Refused (CountsDiffer (min (length t) (length u))) = rw (ne-eqb (length t) (length u) s) in
+          let w : told (countsVerdict (length t) (length u)) (length t) ≡ Refused (CountsDiffer (min (length t) (length u))) = rw (ne-eqb (length t) (length u) s) in
           ap (λ k. Refused (CountsDiffer k)) m ∙ sym (tables-counts ∙ w)
 
 -- ---- what tables that pass hold
@@ -115,7 +116,7 @@ table-fine t e =
     let w = cond-fine (ltb mostEntries (length t)) (OverLimit mostEntries) (entriesVerdict t 0) e in
     (ltb-false mostEntries (length t) (w .0), entries-fine t 0 (w .1))
 
-counts-fine : (t u : List ℕ) → countsVerdict t u ≡ fine → length t ≡ length u
+counts-fine : (t u : List ℕ) → countsVerdict (length t) (length u) ≡ fine → length t ≡ length u
 unfolding countsVerdict
 counts-fine t u e = go (eqb (length t) (length u)) refl e
   where
@@ -133,8 +134,8 @@ pub record Tables (t u : List ℕ) : Type 0 where
 pub tables-fine : (t u : List ℕ) → tablesVerdict t u ≡ fine → Tables t u
 unfolding tablesVerdict
 tables-fine t u e =
-    let a = first-fine (tableVerdict t) (first (tableVerdict u) (countsVerdict t u)) e in
-    let b = first-fine (tableVerdict u) (countsVerdict t u) (a .1) in
+    let a = first-fine (tableVerdict t) (first (tableVerdict u) (countsVerdict (length t) (length u))) e in
+    let b = first-fine (tableVerdict u) (countsVerdict (length t) (length u)) (a .1) in
     let x = table-fine t (a .0) in
     let y = table-fine u (b .0) in
     record { same = counts-fine t u (b .1); few = x .0; requests = x .1; replies = y .1 }

@@ -1,12 +1,13 @@
 -- Size tables given by themselves, and what is refused of them (01, "Groups and packets"; table: 5, 11).
 -- Assumes nothing: these are definitions.
-use Prim.Native.Nat.{ℕ, _+_, _^_, min}
+use Prim.Native.Nat.{ℕ, _+_, _^_}
 use mathlib.Core.Bool.{Bool, cond}
 use mathlib.Core.List.{List, [], _∷_}
-use lib.Dec.{ltb, eqb}
+use lib.Dec.{ltb}
 use lib.ListN.{length}
 use Rattle.fields.specs.Format.{Verdict, fine, bad, first}
-use Rattle.fields.specs.declared.Refusal.the-variants.{OverLimit, CountsDiffer}
+use Rattle.fields.specs.Files.{countsVerdict}
+use Rattle.fields.specs.declared.Refusal.the-variants.{OverLimit}
 use Rattle.sizes.specs.Sizes.{Size}
 
 -- 01: "Size tables (requests, then replies)": the sizes of the reads; what one table has over the other is left out
@@ -32,10 +33,6 @@ entriesVerdict (t ∷ ts) i = let later = entriesVerdict ts (i + 1) in cond (ltb
 unfoldable pub tableVerdict : List ℕ → Verdict
 tableVerdict ts = cond (ltb mostEntries (length ts)) (bad (OverLimit mostEntries)) (entriesVerdict ts 0)
 
--- 01, table, 11: "two size tables differ in count", the smaller one
-unfoldable pub countsVerdict : List ℕ → List ℕ → Verdict
-countsVerdict ts us = cond (eqb (length ts) (length us)) fine (bad (CountsDiffer (min (length ts) (length us))))
-
 -- 01: "Inputs in the order .. size tables", "Then 11"
 unfoldable pub tablesVerdict : List ℕ → List ℕ → Verdict
-tablesVerdict ts us = first (tableVerdict ts) (first (tableVerdict us) (countsVerdict ts us))
+tablesVerdict ts us = first (tableVerdict ts) (first (tableVerdict us) (countsVerdict (length ts) (length us)))

@@ -12,7 +12,7 @@ use Rattle.fields.proofs.Lists.{all-weaken}
 use Rattle.catalog.specs.Catalog.{Catalog}
 use Rattle.packing.specs.declared.Cost.{Cost}
 use Rattle.lists.specs.Lists.{TagList, tagList, longestList, tag, tags, together, noGroup, fromTogether, layout as listLayout}
-use Rattle.plans.specs.Plans.{member, members, read, plan, longestPlan, planVerdict, layout as planLayout, planOf as planSpelled}
+use Rattle.plans.specs.Plans.{member, members, read, plan, longestPlan, planVerdict, layout as planLayout, readsOf}
 use Rattle.plans.proofs.Round.{plan-accepts}
 use Rattle.planner.specs.Tags.{tagsOf}
 use Rattle.planner.specs.Merging.{Pending, Given, servedBy}
@@ -91,5 +91,5 @@ plan-writable k c w h l =
 
 -- THEOREM: the plan that is written of a list inside its limits is accepted, and reads back
 pub plan-is-accepted : (k : Cost) (c : Catalog) (w : TagList) → tagList .within w → length (listLayout w) ≤ longestList
-    → (planVerdict (planLayout (planOf k c w)) ≡ fine) × (planSpelled (planLayout (planOf k c w)) ≡ planOf k c w)
+    → (planVerdict (planLayout (planOf k c w)) ≡ fine) × (readsOf (planLayout (planOf k c w)) ≡ planOf k c w)
 plan-is-accepted k c w h l = let x = plan-writable k c w h l in plan-accepts (planOf k c w) (x .0) (x .1)

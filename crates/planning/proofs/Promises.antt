@@ -27,7 +27,7 @@ use Rattle.packing.proofs.Checking.{told-fine}
 use Rattle.packing.proofs.Filing.{refused}
 use Rattle.lists.specs.Lists.{tagList, longestList, listOf, listVerdict, layout as listLayout}
 use Rattle.lists.proofs.Round.{list-accepted}
-use Rattle.plans.specs.Plans.{planOf as readsOf}
+use Rattle.plans.specs.Plans.{readsOf}
 use Rattle.planner.specs.Plan.{planOf}
 use Rattle.planner.specs.Serving.{timesServed}
 use Rattle.planner.proofs.Serving.{plan-serves}

@@ -14,7 +14,7 @@ use Rattle.catalog.specs.Catalog.{Catalog, catalogOf}
 use Rattle.catalog.specs.Check.{catalogVerdict}
 use Rattle.packing.specs.Packing.{standard}
 use Rattle.lists.specs.Lists.{listOf, listVerdict}
-use Rattle.plans.specs.Plans.{Read, Member, layout, planOf as readsOf}
+use Rattle.plans.specs.Plans.{Read, Member, layout, readsOf}
 use Rattle.values.specs.Value.{Value}
 use Rattle.values.specs.File.{valueOf}
 use Rattle.values.specs.Alike.{valueVerdict}

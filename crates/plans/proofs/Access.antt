@@ -13,25 +13,25 @@ use Rattle.fields.specs.Files.{fileOf}
 use Rattle.fields.specs.Places.{valueAt, placeAt}
 use Rattle.fields.proofs.Reading.{then-value, leading-value, mapped-value, number-value, indexed-text-value}
 use Rattle.fields.proofs.Rows.{values-from, values-length}
-use Rattle.plans.specs.Plans.{Step, Read, steps, member, members, read, planOf}
+use Rattle.plans.specs.Plans.{Step, Read, steps, member, members, read, readsOf}
 use Rattle.plans.specs.Access.{readPlaces, readHead, memberBytes}
 use Rattle.plans.proofs.Round.{lawful-read, lawful-name}
 use Rattle.plans.proofs.Steps.{lawful-count}
 
 -- ---- the reads of a file
 module _ (s : List ℕ) where
-  pub reads-are : planOf s ≡ valueAt (many read (valueAt (number 2 256) s 1)) s (placeAt (number 2 256) s 1)
-  unfolding planOf fileOf counted valueAt
+  pub reads-are : readsOf s ≡ valueAt (many read (valueAt (number 2 256) s 1)) s (placeAt (number 2 256) s 1)
+  unfolding readsOf fileOf counted valueAt
   reads-are = leading-value (number 2 256) length (many read) s 1 lawful-count
 
-  reads-length : length (planOf s) ≡ valueAt (number 2 256) s 1
+  reads-length : length (readsOf s) ≡ valueAt (number 2 256) s 1
   reads-length = ap length reads-are ∙ values-length read s lawful-read (valueAt (number 2 256) s 1) (placeAt (number 2 256) s 1)
 
   -- the count that was read
   pub reads-number : (n : ℕ) → n ≡ limited 256 (whole 2 (take 2 (drop 1 s))) → n ≡ valueAt (number 2 256) s 1
   reads-number n e = e ∙ sym (number-value s 1 256 2)
 
-  pub reads-count : (n : ℕ) → n ≡ limited 256 (whole 2 (take 2 (drop 1 s))) → n ≡ length (planOf s)
+  pub reads-count : (n : ℕ) → n ≡ limited 256 (whole 2 (take 2 (drop 1 s))) → n ≡ length (readsOf s)
   reads-count n e = reads-number n e ∙ sym reads-length
 
   -- the name of the read at a place is the text there
@@ -41,11 +41,6 @@ module _ (s : List ℕ) where
       sym (ap (λ (x : Read). x .name) (mapped-value _ _ (indexedText 136 1000001 then members) s p)
       ∙ ap (λ x. x .0) (then-value (indexedText 136 1000001) members s p lawful-name)
       ∙ indexed-text-value s p 136 1000001)
-
-  -- the reads from number `k` on, of which the first stands at the `k`-th place
-  pub reads-from : (k : ℕ) → k < length (planOf s) → drop k (planOf s) ≡ valueAt read s (getD (readPlaces s) k 0) ∷ drop (suc k) (planOf s)
-  unfolding readPlaces
-  reads-from k h = rw reads-are (values-from read s lawful-read (valueAt (number 2 256) s 1) k (placeAt (number 2 256) s 1) (rw reads-length at h))
 
 -- ---- what is written is the layout
 -- a read: its head, then its members

@@ -12,11 +12,11 @@ use Rattle.fields.specs.Format.{fine, bad, first, joined, onward, _then_, leadi
 use Rattle.fields.specs.Fields.{spelled, digits, whole, limited, numberCheck, numeric, number, choice, textBytes, textCheck, textOf, textRest, textPast, textVerdict, text, opensIndex, digitsAbove, indexCheck, indexedText, counted, optional}
 use Rattle.fields.specs.Files.{openingCheck, endingCheck, fieldsCheck, fileCheck, fileOf, fileLay}
 use Rattle.fields.specs.declared.Refusal.the-variants.{FileTooLong, BadVersion, OutOfFile, NotAllowed, OverLimit, IndexTooLarge}
-use Rattle.plans.specs.Plans.{Step, named, indexed, firstOf, Member, Read, stepByte, namedText, indexedNumber, firstNumber, afterByte, step, member, read, planOf, planVerdict, layout}
+use Rattle.plans.specs.Plans.{Step, named, indexed, firstOf, Member, Read, stepByte, namedText, indexedNumber, firstNumber, afterByte, step, member, read, readsOf, planVerdict, layout}
 
 -- opens every definition that the check, the reading and the layout of a plan need
 computing : Unit {0}
-unfolding between printable isDigit valueFrom leadingDigits first joined onward _then_ leading mapped given manyRead manyLay many heldRead heldLay held flagOf among spelled digits whole limited numberCheck numeric number choice textBytes textCheck textOf textRest textPast textVerdict text opensIndex digitsAbove indexCheck indexedText counted optional openingCheck endingCheck fieldsCheck fileCheck fileOf fileLay stepByte namedText indexedNumber firstNumber afterByte step member read planOf planVerdict layout
+unfolding between printable isDigit valueFrom leadingDigits first joined onward _then_ leading mapped given manyRead manyLay many heldRead heldLay held flagOf among spelled digits whole limited numberCheck numeric number choice textBytes textCheck textOf textRest textPast textVerdict text opensIndex digitsAbove indexCheck indexedText counted optional openingCheck endingCheck fieldsCheck fileCheck fileOf fileLay stepByte namedText indexedNumber firstNumber afterByte step member read readsOf planVerdict layout
 computing = tt
 
 -- a text behind its length byte
@@ -55,7 +55,7 @@ accepted : planVerdict listed ≡ fine
 unfolding computing
 accepted = refl
 
-read-back : planOf listed ≡ reads
+read-back : readsOf listed ≡ reads
 unfolding computing
 read-back = refl
 
@@ -78,7 +78,7 @@ unfolding computing
 count-1000002 = refl
 
 -- ---- key bytes: that of Trend[3] stands at 76
-key-2 : planOf (set listed 76 2)
+key-2 : readsOf (set listed 76 2)
     ≡ record { name = bytes "Motor"; members = by (bytes "Motor.Speed") (named (bytes "Speed")) ∷ by (bytes "Motor.Amps") (named (bytes "Amps")) ∷ [] }
     ∷ record { name = bytes "Trend[3]{3}"; members = by (bytes "Trend[3]") (firstOf 0) ∷ by (bytes "Trend[5]") (indexed 2) ∷ [] }
     ∷ record { name = bytes "Odd.5"; members = record { tag = bytes "Odd.5"; path = none } ∷ [] }

@@ -14,7 +14,7 @@ use Rattle.fields.proofs.Lists.{Bytes}
 use Rattle.fields.proofs.Lawful.{Lawful, _and_, lawful-leading, lawful-mapped, lawful-among}
 use Rattle.fields.proofs.LawfulFields.{lawful-number, lawful-choice, lawful-text, lawful-indexed-text, lawful-counted, lawful-optional}
 use Rattle.fields.proofs.WholeFiles.{accepted, accepts}
-use Rattle.plans.specs.Plans.{Step, named, indexed, firstOf, Read, stepByte, namedText, indexedNumber, firstNumber, afterByte, step, steps, member, members, read, plan, longestPlan, planOf, planVerdict, layout}
+use Rattle.plans.specs.Plans.{Step, named, indexed, firstOf, Read, stepByte, namedText, indexedNumber, firstNumber, afterByte, step, steps, member, members, read, plan, longestPlan, readsOf, planVerdict, layout}
 
 -- ---- keys: each kind is told back from what follows its byte
 named-again : (b : Step) (t : Text) → namedText b ≡ some t → named t ≡ b
@@ -83,11 +83,11 @@ lawful-plan = lawful-counted 2 256 read (omega arith) lawful-read
 
 -- ---- whole files
 -- what is accepted is the layout of what was read, and this is inside the limits
-pub plan-accepted : (s : List ℕ) → Bytes s → planVerdict s ≡ fine → (layout (planOf s) ≡ s) × plan .within (planOf s) × (length s ≤ longestPlan)
-unfolding planVerdict layout planOf
+pub plan-accepted : (s : List ℕ) → Bytes s → planVerdict s ≡ fine → (layout (readsOf s) ≡ s) × plan .within (readsOf s) × (length s ≤ longestPlan)
+unfolding planVerdict layout readsOf
 plan-accepted s b e = accepted longestPlan plan lawful-plan s b e
 
 -- the layout of any plan inside the limits is accepted and reads back
-pub plan-accepts : (rs : List Read) → plan .within rs → length (layout rs) ≤ longestPlan → (planVerdict (layout rs) ≡ fine) × (planOf (layout rs) ≡ rs)
-unfolding planVerdict layout planOf
+pub plan-accepts : (rs : List Read) → plan .within rs → length (layout rs) ≤ longestPlan → (planVerdict (layout rs) ≡ fine) × (readsOf (layout rs) ≡ rs)
+unfolding planVerdict layout readsOf
 plan-accepts rs w h = accepts longestPlan plan lawful-plan rs w h

@@ -83,8 +83,8 @@ abbrev pub longestPlan : ℕ
 longestPlan = 65536
 
 -- the plan that any bytes spell
-unfoldable pub planOf : List ℕ → List Read
-planOf s = fileOf plan s
+unfoldable pub readsOf : List ℕ → List Read
+readsOf s = fileOf plan s
 
 -- 01, table: 1 to 5 and 8
 unfoldable pub planVerdict : List ℕ → Verdict

@@ -8,7 +8,7 @@ ghost use Prim.Native.Nat.{_≤_};
 ghost use lib.ListN.{length};
 ghost use Rattle.fields.specs.Fields.{number, optional};
 ghost use Rattle.fields.specs.Places.{valueAt, placeAt};
-ghost use Rattle.plans.specs.Plans.{step, steps, member, members, read, planOf};
+ghost use Rattle.plans.specs.Plans.{step, steps, member, members, read, readsOf};
 
 // The place past a key.
 pub fn step_past(s: &[u8], at: usize) -> usize
@@ -74,7 +74,7 @@ pub fn read_past(s: &[u8], at: usize) -> usize
 
 // How many reads there are.
 pub fn read_count(s: &[u8]) -> usize
-    ensures { λ r. ⌜ (r ≡ length (planOf (now (s .entry)))) × (r ≡ valueAt (number 2 256) (now (s .entry)) 1) × (r ≤ 256) ⌝ }
+    ensures { λ r. ⌜ (r ≡ length (readsOf (now (s .entry)))) × (r ≡ valueAt (number 2 256) (now (s .entry)) 1) × (r ≤ 256) ⌝ }
 {
     number_at(s, 1, Width::Two, 256)
 }

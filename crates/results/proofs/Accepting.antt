@@ -19,9 +19,10 @@ use Rattle.fields.specs.declared.Written.the-variants.{Refused as Unwritten}
 use Rattle.fields.proofs.Chains.{told-bad, told-good}
 use Rattle.fields.proofs.Lawful.{first-fine}
 use Rattle.fields.proofs.WholeFiles.{opening-fine}
-use Rattle.plans.specs.Plans.{plan as planFields, planOf, planVerdict}
+use Rattle.plans.specs.Plans.{plan as planFields, readsOf, planVerdict}
 use Rattle.results.specs.Results.{result, results, resultsOf, fieldsVerdict, resultsAlike, resultsVerdict}
-use Rattle.results.specs.Sorting.{countsVerdict, sortVerdict}
+use Rattle.fields.specs.Files.{countsVerdict}
+use Rattle.results.specs.Sorting.{sortVerdict}
 use Rattle.results.specs.Told.{pairCount}
 use Rattle.results.proofs.Naming.{told-fine}
 
@@ -38,7 +39,7 @@ results-length s = let a = number 2 65535 .read (drop 1 s) 1 in row-length (a .v
 -- ---- the refusals in their order
 module _ (plan s : List ℕ) where
   abbrev counts : Verdict
-  counts = countsVerdict (length (planOf plan)) (length (resultsOf s))
+  counts = countsVerdict (length (readsOf plan)) (length (resultsOf s))
 
   pub plan-refused : (r : Refusal) → told (planVerdict plan) (length plan) ≡ Refused r → Refused r ≡ told (sortVerdict plan s) (length plan)
   unfolding sortVerdict
@@ -53,7 +54,7 @@ module _ (plan s : List ℕ) where
     results-refused r f = sym (behind-plan ∙ told-bad (resultsVerdict s) counts (length s) (length plan) r f)
 
     -- `n` reads and `m` results
-    module _ (q : ℕ) (f : told (resultsVerdict s) (length s) ≡ Good q) (n m : ℕ) (a : n ≡ length (planOf plan)) (b : m ≡ valueAt (number 2 65535) s 1) where
+    module _ (q : ℕ) (f : told (resultsVerdict s) (length s) ≡ Good q) (n m : ℕ) (a : n ≡ length (readsOf plan)) (b : m ≡ valueAt (number 2 65535) s 1) where
       behind-results : told (sortVerdict plan s) (length plan) ≡ told (countsVerdict n m) (length plan)
       behind-results =
           behind-plan ∙ told-good (resultsVerdict s) counts (length s) (length plan) q f .0
@@ -78,8 +79,8 @@ module _ (plan s : List ℕ) (p : ℕ) (e : told (sortVerdict plan s) (length pl
   pub not-over : (length plan ≤ 65536) × (length s ≤ 65536)
   unfolding sortVerdict planVerdict resultsVerdict fieldsVerdict fileCheck
   not-over =
-      let a = first-fine (planVerdict plan) (first (resultsVerdict s) (countsVerdict (length (planOf plan)) (length (resultsOf s)))) accepted in
-      let b = first-fine (resultsVerdict s) (countsVerdict (length (planOf plan)) (length (resultsOf s))) (a .1) in
+      let a = first-fine (planVerdict plan) (first (resultsVerdict s) (countsVerdict (length (readsOf plan)) (length (resultsOf s)))) accepted in
+      let b = first-fine (resultsVerdict s) (countsVerdict (length (readsOf plan)) (length (resultsOf s))) (a .1) in
       let c = first-fine (fieldsVerdict s) (resultsAlike (valueAt (number 2 65535) s 1) s (placeAt (number 2 65535) s 1)) (b .0) in
       let x = first-fine (openingCheck 65536 plan) (fieldsCheck (planFields .read (drop 1 plan) 1)) (a .0) in
       let y = first-fine (openingCheck 65536 s) (fieldsCheck (results .read (drop 1 s) 1)) (c .0) in

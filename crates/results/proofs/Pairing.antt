@@ -10,7 +10,7 @@ use Rattle.fields.specs.Format.{many}
 use Rattle.fields.specs.Fields.{number}
 use Rattle.fields.specs.Places.{valueAt, placeAt}
 use Rattle.fields.proofs.Reading.{many-value-none, many-value-more}
-use Rattle.plans.specs.Plans.{Read, read, planOf}
+use Rattle.plans.specs.Plans.{Read, read, readsOf}
 use Rattle.plans.proofs.Round.{lawful-read}
 use Rattle.plans.proofs.Access.{reads-are}
 use Rattle.results.specs.Results.{result}
@@ -53,7 +53,7 @@ module _ (plan s : List ℕ) where
   pairs-sorted (suc n) (suc m) p q =
       rw (reads-next n p, min-next n m) (ap (λ x. readEntries s (replyAt s q) (valueAt read plan p .members) ++ x) (pairs-sorted n m (placeAt read plan p) (placeAt result s q)))
 
-  pub sorted-is : sortedEntries s (planOf plan) (repliesOf s) ≡ allEntries plan s
+  pub sorted-is : sortedEntries s (readsOf plan) (repliesOf s) ≡ allEntries plan s
   unfolding repliesOf allEntries pairCount
   sorted-is = rw (reads-are plan) (pairs-sorted (valueAt (number 2 256) plan 1) (valueAt (number 2 65535) s 1) (placeAt (number 2 256) plan 1) (placeAt (number 2 65535) s 1))
 
@@ -78,6 +78,6 @@ module _ (plan s : List ℕ) where
       (pairs-failed n m (placeAt read plan p) (placeAt result s q) (i + 1) (valueAt read plan p .name ∷ names))
       (pairs-failed n m (placeAt read plan p) (placeAt result s q) (i + 1) names))
 
-  pub failed-is : failedFrom s 0 [] (planOf plan) (repliesOf s) ≡ allFailed plan s
+  pub failed-is : failedFrom s 0 [] (readsOf plan) (repliesOf s) ≡ allFailed plan s
   unfolding repliesOf allFailed pairCount
   failed-is = rw (reads-are plan) (pairs-failed (valueAt (number 2 256) plan 1) (valueAt (number 2 65535) s 1) (placeAt (number 2 256) plan 1) (placeAt (number 2 65535) s 1) 0 [])

@@ -1,19 +1,18 @@
 -- The sorted answer: for each member of a plan what its cell shows, and which reads failed (01, "Cut values": Sorted; planner.rs
 -- `execute` on one chunk, one entry a member).
 -- Assumes nothing: these are definitions.
-use Prim.Native.Nat.{ℕ, zero, suc, _+_, min}
+use Prim.Native.Nat.{ℕ, zero, suc, _+_}
 use mathlib.Core.Bool.{Bool, true, false, cond}
 use mathlib.Core.List.{List, [], _∷_, _++_, map}
 use mathlib.Core.Option.{Option, none, some}
 use lib.Dec.{eqb}
 use lib.ListN.{length}
 use Rattle.fields.specs.Text.{Text, same}
-use Rattle.fields.specs.Format.{Verdict, fine, bad, first, Format, _then_, leading, mapped, among}
+use Rattle.fields.specs.Format.{Verdict, first, Format, _then_, leading, mapped, among}
 use Rattle.fields.specs.Fields.{number, choice, counted}
-use Rattle.fields.specs.Files.{fileLay}
+use Rattle.fields.specs.Files.{fileLay, countsVerdict}
 use Rattle.fields.specs.Places.{valueAt, placeAt}
-use Rattle.fields.specs.declared.Refusal.the-variants.{CountsDiffer}
-use Rattle.plans.specs.Plans.{Step, Member, Read, planOf, planVerdict}
+use Rattle.plans.specs.Plans.{Step, Member, Read, readsOf, planVerdict}
 use Rattle.values.specs.Dig.{digPlace}
 use Rattle.results.specs.Results.{nothing, result, resultsOf, resultsVerdict}
 
@@ -139,7 +138,7 @@ pub record Sorted : Type 0 where
 
 -- the sorted answer
 unfoldable pub sortedOf : List ℕ → List ℕ → Sorted
-sortedOf plan s = record { entries = sortedEntries s (planOf plan) (repliesOf s); failures = failedFrom s 0 [] (planOf plan) (repliesOf s) }
+sortedOf plan s = record { entries = sortedEntries s (readsOf plan) (repliesOf s); failures = failedFrom s 0 [] (readsOf plan) (repliesOf s) }
 
 -- an entry's first byte
 unfoldable pub entryByte : Entry → ℕ
@@ -182,10 +181,6 @@ sorted = mapped (λ p. record { entries = p .0; failures = p .1 }) (λ z. (z .en
 unfoldable pub sortedFile : List ℕ → List ℕ → List ℕ
 sortedFile plan s = fileLay sorted (sortedOf plan s)
 
--- 01, table, 11: "results against reads .. differ in count", the smaller one
-unfoldable pub countsVerdict : ℕ → ℕ → Verdict
-countsVerdict n m = cond (eqb n m) fine (bad (CountsDiffer (min n m)))
-
 -- 01: "Inputs in the order .. plan, results", "Then 11"
 unfoldable pub sortVerdict : List ℕ → List ℕ → Verdict
-sortVerdict plan s = first (planVerdict plan) (first (resultsVerdict s) (countsVerdict (length (planOf plan)) (length (resultsOf s))))
+sortVerdict plan s = first (planVerdict plan) (first (resultsVerdict s) (countsVerdict (length (readsOf plan)) (length (resultsOf s))))

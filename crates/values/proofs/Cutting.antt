@@ -41,9 +41,6 @@ module _ (s : List ℕ) (at : ℕ) (v : Value) (h : Placed s at v) where
   body-small : length (body v) < 256 ^ 4
   body-small = omega (arith, h .small, layout-length v)
 
-  body-there : Stands s (at + 4) (body v)
-  body-there = content-stands s at (body v) body-small there-sized
-
   pub placed-end : pastValue s at ≡ at + length (layout v)
   placed-end = value-ends s at (body v) body-small there-sized ∙ omega (arith, layout-length v)
 
