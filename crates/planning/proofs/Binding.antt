@@ -7,13 +7,16 @@ use mathlib.Core.Bool.{Bool, true, false, cond, _&&_}
 use mathlib.Core.List.{List, [], _∷_, _++_, map}
 use mathlib.Core.Option.{Option, none, some}
 use native.Mathlib.Omega.{arith}
-use lib.Dec.{eqb}
+use lib.Dec.{eqb, leb}
 use lib.ListN.{length, take, drop, getD, length-take, drop-of-length-le}
 use lib.Seq.{drop-cons, getD-take}
 use borrow.Author.Tests.{eq-eqb, ne-eqb}
+use Rattle.fields.specs.Text.{Text}
 use Rattle.names.specs.Name.{tokensOf}
 use Rattle.names.specs.Pieces.{joined}
+use Rattle.catalog.specs.Finding.{any}
 use Rattle.packing.specs.Packing.{empty}
+use Rattle.lists.specs.Lists.{listOf}
 use Rattle.planner.specs.Lists.{keep, given}
 use Rattle.planner.specs.Candidates.{Group}
 use Rattle.planner.specs.Merging.{Pending, Given, Merged, mergedOf, merge, boundTogether}
@@ -309,3 +312,36 @@ module _ (list : List ℕ) (room : ℕ) (places indexes spellers spans numbers w
         (left-as g bs (leftFrom g room cs 1) rs members′ lens′ kinds′ requests′ replies′ n (leftFrom g room cs level) [] (from-end g room cs level h) (t .told g bs rs k l rd kd))
         in
         (subst (λ x. Reading (boundTogether g x rs) members′ lens′ requests′ replies′ n) e (a .0), subst (λ x. Kinded g bs (boundTogether g x rs) kinds′ n) e (a .1))
+
+-- ---- a list that names nothing to be read together
+empty-list : (ts : List Text) → length ts ≡ 0 → ts ≡ []
+empty-list [] e = refl
+empty-list (t ∷ ts) e = absurd (omega arith)
+
+binds-nothing : (g : Given) (room : ℕ) → g .list .together ≡ [] → (b : Bunch) → isBinding g room b ≡ false
+unfolding isBinding any
+binds-nothing g room e b = rw e (go (leb (b .weight + 10) room))
+  where
+    go : (x : Bool) → (x && false) ≡ false
+    go true = refl
+    go false = refl
+
+none-at : (g : Given) (room level : ℕ) (bs : List Bunch) → g .list .together ≡ [] → bindingAt g room bs level ≡ []
+unfolding bindingAt keep
+none-at g room level [] e = refl
+none-at g room level (b ∷ bs) e = rw (binds-nothing g room e b) (none-at g room level bs e)
+
+none-joined : (g : Given) (room : ℕ) (bs : List Bunch) (ls : List ℕ) → g .list .together ≡ [] → joined (map (bindingAt g room bs) ls) ≡ []
+unfolding joined
+none-joined g room bs [] e = refl
+none-joined g room bs (l ∷ ls) e = rw (none-at g room l bs e) (none-joined g room bs ls e)
+
+pub bound-nothing : (list : List ℕ) (room : ℕ) (places indexes spellers spans numbers weights asks stops serves : List ℕ) (structs : ℕ) (members lens kinds requests replies : List ℕ) (count n : ℕ)
+    → n ≡ length (listOf list .together) → n ≡ 0
+    → AllBound list room places indexes spellers spans numbers weights asks stops serves structs members lens kinds requests replies count members lens kinds requests replies count
+unfolding bindingOf boundTogether
+bound-nothing list room places indexes spellers spans numbers weights asks stops serves structs members lens kinds requests replies count n c z =
+    λ cost q g bs rs k l e rd kd.
+    let t : g .list .together ≡ [] = ap (λ x. x .together) (k .asked) ∙ empty-list (listOf list .together) (sym c ∙ z) in
+    let w = none-joined g (g .list .budget - empty cost .reply) (take structs bs) (positions 1 64) t in
+    rw w (rd, kd)

@@ -6,6 +6,7 @@ use crate::name_of;
 use crate::serve_start;
 use fields::check::text_at;
 use lists::bars::is_together;
+use lists::read::together_count;
 use lists::read::whole_max;
 use names::Step;
 use names::walk::first_token;
@@ -348,7 +349,7 @@ fn bind_level(
     under
 }
 
-// The reads after all that is always read in one, the outermost structs first.
+// The reads after all that is always read in one, the outermost structs first; those that are there where the list names nothing.
 pub(crate) fn bind(
     list: &[u8],
     room: u64,
@@ -369,6 +370,9 @@ pub(crate) fn bind(
     ensures columns { λ r. ⌜ AllBound (now (list .entry)) room (now (places .entry)) (now (indexes .entry)) (now (spellers .entry)) (now (spans .entry)) (now (numbers .entry)) (now (weights .entry)) (now (asks .entry)) (now (stops .entry)) (now (serves .entry)) structs (now (members .entry)) (lensIn (reads .table)) (kindsIn (reads .table)) (requestsIn (reads .table)) (repliesIn (reads .table)) (reads .count) (now (members .exit)) (lensIn (r .table)) (kindsIn (r .table)) (requestsIn (r .table)) (repliesIn (r .table)) (r .count) ⌝ }
     ensures named { λ r. ⌜ NamesKept (now (list .entry)) (now (places .entry)) (now (spellers .entry)) (now (spans .entry)) reads r ⌝ }
 {
+    if together_count(list) == 0 {
+        return reads;
+    }
     let mut levels = [0; 8448];
     fill_levels(
         list,
