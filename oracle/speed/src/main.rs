@@ -1,18 +1,36 @@
-//! How long a plan takes: the Rust's and, built with the feature `port`, the static library's beside it. `speed CALLS`
-//! times the bench, `speed worst` catalogs and lists made up to take long. No test looks at these times.
+//! How long the library's calls take, with the Rust's beside them; without the feature `port` the Rust's alone.
+//! `speed CALLS` times the bench, `speed worst` inputs made up to take long. No test looks at these times.
 
 mod bench;
+mod case;
+mod cuts;
+mod far;
+mod groups;
 mod plans;
 mod slow;
+mod slow_files;
+mod table;
 
 use std::process::ExitCode;
 
+use case::{Case, Decoding};
 use oracle::library::{self, Library};
-use plans::Case;
+use table::Of;
 
-/// How many calls the bench makes where none are said, and how often a slow list is planned.
+/// How often a call is made: on the bench where nothing is said, and on slow inputs.
 const CALLS: usize = 1000;
 const TIMES: usize = 5;
+/// The most time that the Rust's calls of a row may take before no further one is made, in nanoseconds.
+const BENCH: u128 = 60_000_000_000;
+const WORST: u128 = 10_000_000_000;
+/// The budget of packed plans.
+const BUDGET: u16 = 4000;
+
+/// Which map the Rust was built with.
+const MAP: &str = match cfg!(feature = "real-map") {
+    true => "the crate indexmap itself",
+    false => "the stand-in for the crate indexmap",
+};
 
 fn main() -> ExitCode {
     let words: Vec<String> = std::env::args().skip(1).collect();
@@ -37,46 +55,42 @@ fn usage() -> String {
     "usage: speed [CALLS] or speed worst".to_owned()
 }
 
-/// The medians of so many calls, a row for each size.
+/// The medians of so many calls, a row for each call.
 fn bench(calls: usize, port: Option<&Library>) -> Result<(), String> {
-    head(&format!("tags, median of {calls} calls"));
-    for tags in bench::SIZES {
-        let (rust, port) = Case::new(&bench::catalog(), &bench::list(tags), port)?.times(calls);
-        row(&tags.to_string(), median(rust), median(port));
+    table::head(&format!("call, median of {calls} calls"));
+    for (what, case) in bench::rows() {
+        let times = case.and_then(|case| case.times(port, calls, BENCH)).map_err(|e| format!("{what}: {e}"))?;
+        table::row(&what, times, calls, Of::Median);
     }
-    if let Some(library) = port {
-        row("the check of its catalog alone", None, median(plans::checks(&bench::catalog(), library, calls)));
-    }
+    println!("\nThe Rust's map is {MAP}.");
     Ok(())
 }
 
-/// The shortest of a few calls, a row for each list.
+/// The shortest of a few calls, a row for each input.
 fn worst(port: Option<&Library>) -> Result<(), String> {
-    head(&format!("list, shortest of {TIMES} calls"));
-    for (what, catalog, list) in slow::all() {
-        let mut case = Case::new(&catalog, &list, port).map_err(|e| format!("{what}: {e}"))?;
-        let (rust, port) = case.times(TIMES);
-        row(what, rust.into_iter().min(), port.into_iter().min());
+    table::head(&format!("call and input, shortest of {TIMES} calls"));
+    for (what, catalog, list) in slow::lists() {
+        slow_row("plan", what, plans::plan(&catalog, &list), port)?;
     }
+    for (what, catalog) in slow_files::catalogs() {
+        slow_row("catalog", what, plans::check(&catalog), port)?;
+    }
+    for (what, catalog, reads) in slow_files::plans() {
+        slow_row("plan_chunks", what, groups::plan_chunks(&catalog, &reads, BUDGET, Decoding::Before), port)?;
+    }
+    for (what, value, path) in slow_files::values() {
+        slow_row("dig", what, cuts::dig(&value, &path, Decoding::Before), port)?;
+    }
+    for (what, reads, outcomes) in slow_files::results() {
+        slow_row("sort", what, cuts::sort(&reads, &outcomes, Decoding::Before), port)?;
+    }
+    println!("\nThe Rust's map is {MAP}.");
     Ok(())
 }
 
-fn median(mut times: Vec<u128>) -> Option<u128> {
-    times.sort_unstable();
-    times.get(times.len() / 2).copied()
-}
-
-fn head(what: &str) {
-    println!("| {what} | Rust µs | port µs | port / Rust |");
-    println!("|---|---|---|---|");
-}
-
-/// Nanoseconds come in, microseconds are shown; what was not timed stays empty.
-fn row(what: &str, rust: Option<u128>, port: Option<u128>) {
-    let micros = |time: Option<u128>| time.map_or(String::new(), |time| format!("{:.1}", time as f64 / 1000.0));
-    let ratio = match (rust, port) {
-        (Some(rust), Some(port)) => format!("{:.2}", port as f64 / rust as f64),
-        _ => String::new(),
-    };
-    println!("| {what} | {} | {} | {ratio} |", micros(rust), micros(port));
+fn slow_row(call: &str, what: &str, case: Result<Case, String>, port: Option<&Library>) -> Result<(), String> {
+    let what = format!("{call}: {what}");
+    let times = case.and_then(|case| case.times(port, TIMES, WORST)).map_err(|e| format!("{what}: {e}"))?;
+    table::row(&what, times, TIMES, Of::Shortest);
+    Ok(())
 }

@@ -4,6 +4,8 @@ use oracle::catalog::{Catalog, MOST_MEMBERS, MOST_TAGS, MOST_TYPES, Node};
 use oracle::hand::shapes::{atomic, structure, texts, type_of};
 use oracle::list::List;
 
+use crate::far;
+
 /// The most tags of a list.
 const TAGS: usize = 256;
 /// The longest names that many tags of a list may have each, its other names being none.
@@ -14,7 +16,7 @@ const DEEPEST: usize = 16;
 const CHAINS: usize = TAGS / (DEEPEST + 1);
 
 /// What is slow, with its catalog and list.
-pub fn all() -> Vec<(&'static str, Catalog, List)> {
+pub fn lists() -> Vec<(&'static str, Catalog, List)> {
     vec![
         ("126 tags of 128 bytes, 40 structs above each pair", pair_catalog(), pairs(126, 128)),
         ("256 tags of 62 bytes, 18 structs above each pair", pair_catalog(), pairs(TAGS, LENGTH)),
@@ -32,6 +34,8 @@ pub fn all() -> Vec<(&'static str, Catalog, List)> {
         ("64 together names, each a struct with two tags", alike_catalog(), together("")),
         ("256 times one tag", alike_catalog(), listed(vec![format!("{}.a", alike_name(MOST_TAGS - 1)); TAGS])),
         ("256 structs, none with a second tag", alike_catalog(), listed((0..TAGS).map(alone).collect())),
+        ("128 pairs behind 15 members and 9 brackets, types at the end", far::pair_catalog(), listed(far::pairs())),
+        ("256 tags 30 members deep, types at the end", far::deep_catalog(), listed(far::deep(TAGS, 15))),
     ]
 }
 
@@ -163,7 +167,7 @@ mod tests {
 
     #[test]
     fn all_are_inside_the_limits() {
-        for (what, catalog, list) in super::all() {
+        for (what, catalog, list) in super::lists() {
             assert!(Catalog::read(&catalog.write()) == Ok(catalog), "{what}");
             assert!(List::read(&list.write()).as_ref() == Ok(&list), "{what}");
             assert!(list.tags.len() >= 126, "{what}");
