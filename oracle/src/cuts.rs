@@ -1,46 +1,30 @@
 //! The library's calls over a value with a path and over a plan with results: how their cases are made and damaged, and
-//! what is refused. As for catalogs with plans, a damaged file is told by the refusals that it may get; only counts that
-//! differ are told exactly.
+//! what is refused.
 
 use crate::generate::{plans, values};
 use crate::kinds::{self, Fields};
-use crate::library::{Refusal, Told};
+use crate::library::Refusal;
 use crate::plan::{self, PlannedRead, Step};
-use crate::planned::{self, OF_PLANS};
 use crate::random::Random;
 use crate::results::{self, Outcome};
 use crate::value::{self, LEVELS, LIMIT, Plain};
-
-/// The refusals of a value file or a results file, and of a path.
-const OF_VALUES: &[u8] = &[1, 2, 3, 4, 5, 6, 10];
-const OF_PATHS: &[u8] = &[3, 4, 5];
+use crate::{planned, refusals};
 
 /// The value is looked at first. A place is one of the input that is refused.
 pub fn dig_refusal(fields: &[Vec<u8>]) -> Option<Refusal> {
-    let of_value = Told::Among(OF_VALUES, fields[0].len() as u64);
-    let of_path = Told::Among(OF_PATHS, fields[1].len() as u64);
-    match (value::read(&fields[0]).is_err(), plan::read_path(&fields[1]).is_err()) {
-        (false, false) => None,
-        (false, true) => Some(Refusal { told: of_path, cause: "refused: the path" }),
-        (true, false) => Some(Refusal { told: of_value, cause: "refused: the value" }),
-        (true, true) => Some(Refusal { told: of_value, cause: "refused: the value, the path being bad too" }),
-    }
+    let causes = ["refused: the value", "refused: the path", "refused: the value, the path being bad too"];
+    Refusal::of_two(refusals::value(&fields[0]), refusals::path(&fields[1]), causes)
 }
 
 /// The plan is looked at first, then the results, then whether they are equally many.
 pub fn sort_refusal(fields: &[Vec<u8>]) -> Option<Refusal> {
-    let of_plan = Told::Among(OF_PLANS, fields[0].len() as u64);
-    let of_results = Told::Among(OF_VALUES, fields[1].len() as u64);
-    match (plan::read(&fields[0]), results::read(&fields[1])) {
-        (Ok(reads), Ok(results)) if reads.len() != results.len() => {
-            let told = Told::Exactly(11, reads.len().min(results.len()) as u64);
-            Some(Refusal { told, cause: "refused: results and reads of different counts" })
-        }
-        (Ok(_), Ok(_)) => None,
-        (Ok(_), Err(_)) => Some(Refusal { told: of_results, cause: "refused: the results" }),
-        (Err(_), Ok(_)) => Some(Refusal { told: of_plan, cause: "refused: the plan" }),
-        (Err(_), Err(_)) => Some(Refusal { told: of_plan, cause: "refused: the plan, the results being bad too" }),
-    }
+    let causes = ["refused: the plan", "refused: the results", "refused: the plan, the results being bad too"];
+    let refused = Refusal::of_two(refusals::plan(&fields[0]), refusals::results(&fields[1]), causes);
+    refused.or_else(|| {
+        let [reads, results] = [0, 1].map(|file: usize| u16::from_be_bytes([fields[file][1], fields[file][2]]));
+        let cause = "refused: results and reads of different counts";
+        (reads != results).then(|| Refusal { sent_back: (11, reads.min(results).into()), cause })
+    })
 }
 
 /// A value with a path as the stored cases have them, or a value of many parts.

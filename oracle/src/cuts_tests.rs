@@ -2,8 +2,8 @@
 //! something wrong.
 
 use crate::compare::tests::{RIGHT, run};
-use crate::library::{Library, Told};
-use crate::planned::tests::written;
+use crate::library::Library;
+use crate::planned::tests::{taken, written};
 use crate::{cuts, results, value};
 
 /// The fields of a case with these inputs.
@@ -14,26 +14,29 @@ unsafe fn fields(first: (*const u8, usize), second: (*const u8, usize)) -> Vec<V
 
 pub(crate) unsafe extern "C" fn dig(v: *const u8, n: usize, p: *const u8, m: usize) -> u64 {
     let fields = unsafe { fields((v, n), (p, m)) };
-    match value::dig(&fields[0], &fields[1]) {
-        Ok(place) => place.iter().fold(0, |n, b| n << 8 | u64::from(*b)),
-        Err(_) => 3 << 56,
+    match cuts::dig_refusal(&fields) {
+        Some(refusal) => refusal.returned(),
+        None => {
+            let place = value::dig(&fields[0], &fields[1]).expect("an accepted value is cut");
+            place.iter().fold(0, |n, b| n << 8 | u64::from(*b))
+        }
     }
 }
 
 pub(crate) unsafe extern "C" fn sort(p: *const u8, n: usize, r: *const u8, m: usize, out: *mut u8, room: usize) -> u64 {
     let fields = unsafe { fields((p, n), (r, m)) };
-    match cuts::sort_refusal(&fields).map(|refusal| refusal.told) {
-        Some(Told::Exactly(number, count)) => u64::from(number) << 56 | count,
-        Some(Told::Among(..)) => 3 << 56,
+    match cuts::sort_refusal(&fields) {
+        Some(refusal) => refusal.returned(),
         None => written(&results::sort(&fields[0], &fields[1]).expect("accepted files are sorted"), out, room),
     }
 }
 
 /// Takes a value that has a byte too many.
 unsafe extern "C" fn lax_dig(v: *const u8, n: usize, p: *const u8, m: usize) -> u64 {
-    match unsafe { dig(v, n, p, m) } {
-        returned if returned >> 56 == 3 && n > 1 => unsafe { dig(v, n - 1, p, m) },
-        returned => returned,
+    let returned = unsafe { dig(v, n, p, m) };
+    match returned >> 56 == 3 && n > 1 {
+        true => taken(unsafe { dig(v, n - 1, p, m) }, returned),
+        false => returned,
     }
 }
 
@@ -112,7 +115,7 @@ fn every_kind_of_damage_is_among_the_cases() {
 
 #[test]
 fn wrong_cuts_are_found_and_made_small() {
-    assert!(wrong(Library { dig: lax_dig, ..RIGHT }, "dig").contains("with a number of"));
+    assert!(wrong(Library { dig: lax_dig, ..RIGHT }, "dig").contains("with number 0, not"));
     assert!(wrong(Library { dig: foreign, ..RIGHT }, "dig").contains("with number 8, not"));
     let text = wrong(Library { dig: behind, ..RIGHT }, "dig");
     let smallest = text.lines().filter_map(|l| l.trim().strip_prefix("VALUE ")).map(str::len).min();

@@ -17,12 +17,15 @@ pub mod plc;
 #[path = "../target/source/counted.rs"]
 pub mod counted;
 
+pub mod all;
+pub mod by_hand;
 pub mod bytes;
 pub mod catalog;
 pub mod compare;
 pub mod config;
 pub mod cuts;
 pub mod damaged;
+pub mod extremes;
 pub mod features;
 pub mod generate;
 pub mod groups;
@@ -39,6 +42,7 @@ pub mod packed;
 pub mod plan;
 pub mod planned;
 pub mod random;
+pub mod refusals;
 pub mod results;
 pub mod smaller;
 pub mod store;

@@ -7,6 +7,7 @@ use crate::names::LONGEST;
 use crate::packed::{self, ChunksCall, PacketsCall};
 use crate::planned::{self, PlannedCall};
 use crate::random::Random;
+use crate::refusals::SentBack;
 use crate::{cuts, listed};
 
 /// A call with one input and an output, each a pointer and a length.
@@ -42,18 +43,34 @@ pub struct Library {
 /// What a call returned, or what it changed that it may not change.
 pub type Returned = Result<u64, String>;
 
-/// What is known of a refusal: its number and what it returns, or only which numbers it may have and the most that it
-/// may return.
+/// A refusal, and the cause as the table of cases names it.
 #[derive(Clone, Copy, Debug, PartialEq, Eq)]
-pub enum Told {
-    Exactly(u8, u64),
-    Among(&'static [u8], u64),
+pub struct Refusal {
+    pub sent_back: SentBack,
+    pub cause: &'static str,
 }
 
-/// A refusal, and the cause as the table of cases names it.
-pub struct Refusal {
-    pub told: Told,
-    pub cause: &'static str,
+impl Refusal {
+    /// What the library has to return for it.
+    pub fn returned(&self) -> u64 {
+        returned(self.sent_back)
+    }
+
+    /// That of two inputs, of which the first is looked at first. The causes are the first alone, the second alone and
+    /// both.
+    pub fn of_two(first: Option<SentBack>, second: Option<SentBack>, causes: [&'static str; 3]) -> Option<Self> {
+        match (first, second) {
+            (Some(sent_back), None) => Some(Refusal { sent_back, cause: causes[0] }),
+            (None, Some(sent_back)) => Some(Refusal { sent_back, cause: causes[1] }),
+            (Some(sent_back), Some(_)) => Some(Refusal { sent_back, cause: causes[2] }),
+            (None, None) => None,
+        }
+    }
+}
+
+/// A refusal's number in the top byte, and what it returns.
+pub fn returned((number, returned): SentBack) -> u64 {
+    u64::from(number) << 56 | returned
 }
 
 /// How the library is called for one kind of case.
@@ -164,7 +181,7 @@ pub const CALLS: &[Call] = &[
         writes: true,
         refusal: packed::refusal,
         spoil: packed::spoil,
-        spoilt: 4,
+        spoilt: 30,
         generate: None,
     },
     Call {
@@ -175,7 +192,7 @@ pub const CALLS: &[Call] = &[
         writes: false,
         refusal: packed::refusal,
         spoil: packed::spoil,
-        spoilt: 4,
+        spoilt: 30,
         generate: None,
     },
     Call {
@@ -257,7 +274,7 @@ pub fn two_files(function: FilesCall, fields: &[Vec<u8>], out: &mut Lent<u8>) ->
 
 /// The name is the last input.
 fn too_long(fields: &[Vec<u8>]) -> Option<Refusal> {
-    let refusal = Refusal { told: Told::Exactly(5, 0), cause: "refused: a name too long" };
+    let refusal = Refusal { sent_back: (5, 0), cause: "refused: a name too long" };
     (fields[fields.len() - 1].len() > LONGEST).then_some(refusal)
 }
 
@@ -285,15 +302,7 @@ pub fn linked() -> Result<Library, String> {
         fn ruvangixo_chunks(t: *const u64, n: usize, u: *const u64, m: usize, b: u16, out: *mut u8, room: usize)
         -> u64;
         fn ruvangixo_packets(t: *const u64, n: usize, u: *const u64, m: usize, b: u16) -> u64;
-        fn ruvangixo_plan_chunks(
-            c: *const u8,
-            n: usize,
-            p: *const u8,
-            m: usize,
-            b: u16,
-            out: *mut u8,
-            room: usize,
-        ) -> u64;
+        fn ruvangixo_plan_chunks(c: *const u8, n: usize, p: *const u8, m: usize, b: u16, o: *mut u8, r: usize) -> u64;
         fn ruvangixo_dig(value: *const u8, size: usize, path: *const u8, length: usize) -> u64;
         fn ruvangixo_sort(p: *const u8, n: usize, r: *const u8, m: usize, out: *mut u8, room: usize) -> u64;
     }

@@ -7,7 +7,7 @@ use std::process::ExitCode;
 
 use oracle::compare;
 use oracle::kinds::{self, BUDGET, Fields, KINDS, Kind, NAME};
-use oracle::{listing, store, table, worst};
+use oracle::{all, listing, store, table, worst};
 
 fn main() -> ExitCode {
     let mut words: Vec<String> = std::env::args().skip(1).collect();
@@ -43,11 +43,7 @@ fn run(words: &[&str], hex: bool) -> Result<bool, String> {
             let lines = store::many(kind, number(count)?, number(seed)? as u64, Path::new(folder))?;
             Ok(print(&lines, true))
         }
-        ["compare", kind, count, seed] => {
-            let library = compare::linked()?;
-            let (lines, same) = compare::compare(&library, kind, number(count)?, number(seed)? as u64)?;
-            Ok(print(&lines, same))
-        }
+        ["compare", kind, count, seed] => compared(kind, number(count)?, number(seed)? as u64),
         ["listing", catalog, list] => {
             let file = |name: &str| std::fs::read(name).map_err(|e| format!("{name}: {e}"));
             Ok(print(&listing::lines(&file(catalog)?, &file(list)?)?, true))
@@ -59,6 +55,16 @@ fn run(words: &[&str], hex: bool) -> Result<bool, String> {
         },
         [] => Err(usage()),
     }
+}
+
+/// Compares one call, or all calls of users with progress on standard error.
+fn compared(kind: &str, count: usize, seed: u64) -> Result<bool, String> {
+    let library = compare::linked()?;
+    let (lines, same) = match kind {
+        "all" => all::all(&library, count, seed, &mut |line| eprintln!("{line}"))?,
+        _ => compare::compare(&library, kind, count, seed)?,
+    };
+    Ok(print(&lines, same))
 }
 
 fn answer(kind: &Kind, inputs: &[&str], hex: bool) -> Result<bool, String> {
@@ -106,6 +112,7 @@ fn usage() -> String {
     lines.push("  oracle stored FOLDER SEED".to_owned());
     lines.push("  oracle cases KIND COUNT SEED FOLDER".to_owned());
     lines.push("  oracle compare KIND COUNT SEED".to_owned());
+    lines.push("  oracle compare all COUNT SEED".to_owned());
     lines.push("  oracle listing CATALOG LIST".to_owned());
     lines.push("  oracle worst".to_owned());
     lines.join("\n")

@@ -3,7 +3,7 @@
 
 use crate::guard::Lent;
 use crate::kinds;
-use crate::library::{Refusal, Returned, Told};
+use crate::library::{Refusal, Returned};
 use crate::random::Random;
 
 /// A call that writes its answer: each table and the output a pointer and a length, in entries and in bytes.
@@ -53,7 +53,7 @@ fn entries(field: &[u8]) -> Vec<u64> {
 pub fn refusal(fields: &[Vec<u8>]) -> Option<Refusal> {
     let (requests, replies) = (entries(&fields[0]), entries(&fields[1]));
     let differ = Refusal {
-        told: Told::Exactly(11, requests.len().min(replies.len()) as u64),
+        sent_back: (11, requests.len().min(replies.len()) as u64),
         cause: "refused: tables of different counts",
     };
     let first = table(&requests, "refused: too many requests", "refused: a request over 2^40");
@@ -64,10 +64,10 @@ pub fn refusal(fields: &[Vec<u8>]) -> Option<Refusal> {
 /// A count over the limit comes before any entry.
 fn table(entries: &[u64], many: &'static str, large: &'static str) -> Option<Refusal> {
     if entries.len() > MOST {
-        return Some(Refusal { told: Told::Exactly(5, MOST as u64), cause: many });
+        return Some(Refusal { sent_back: (5, MOST as u64), cause: many });
     }
     let position = entries.iter().position(|entry| *entry > LARGEST)?;
-    Some(Refusal { told: Told::Exactly(5, position as u64), cause: large })
+    Some(Refusal { sent_back: (5, position as u64), cause: large })
 }
 
 /// One fault or two, at times none but an entry or a count just at its limit.

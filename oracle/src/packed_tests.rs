@@ -7,7 +7,8 @@ use super::{LARGEST, MOST, refusal};
 use crate::bytes::table_bytes;
 use crate::compare::tests::{RIGHT, run};
 use crate::groups;
-use crate::library::{Library, Told};
+use crate::library::Library;
+use crate::refusals::SentBack;
 
 /// A lent table.
 type Table = (*const u64, usize);
@@ -18,16 +19,8 @@ unsafe fn fields(t: Table, u: Table, budget: u16) -> Vec<Vec<u8>> {
     vec![bytes(t), bytes(u), budget.to_be_bytes().to_vec()]
 }
 
-/// The refusal of two tables: its number and what it returns.
-fn told(fields: &[Vec<u8>]) -> Option<(u8, u64)> {
-    match refusal(fields)?.told {
-        Told::Exactly(number, returned) => Some((number, returned)),
-        Told::Among(..) => panic!("a refusal of tables is known exactly"),
-    }
-}
-
 fn refused(fields: &[Vec<u8>]) -> Option<u64> {
-    told(fields).map(|(number, returned)| u64::from(number) << 56 | returned)
+    refusal(fields).map(|refusal| refusal.returned())
 }
 
 pub(crate) unsafe extern "C" fn chunks(
@@ -146,7 +139,7 @@ fn wrong_counts_are_found() {
 }
 
 /// Tables of so many entries, with one entry at a position of the first and one at a position of the second.
-fn refusal_of(counts: (usize, usize), first: Option<usize>, second: Option<usize>) -> Option<(u8, u64)> {
+fn refusal_of(counts: (usize, usize), first: Option<usize>, second: Option<usize>) -> Option<SentBack> {
     let table = |count: usize, large: Option<usize>| {
         let mut entries = vec![LARGEST; count];
         if let Some(position) = large {
@@ -155,7 +148,7 @@ fn refusal_of(counts: (usize, usize), first: Option<usize>, second: Option<usize
         table_bytes(&entries)
     };
     let fields = [table(counts.0, first), table(counts.1, second), vec![0, 64]];
-    told(&fields)
+    refusal(&fields).map(|refusal| refusal.sent_back)
 }
 
 #[test]

@@ -1,21 +1,17 @@
 //! The library's call over a catalog, a plan and a budget: how its cases are made and damaged, how it is called, and
-//! what is refused. Which refusal a damaged file gets is not told here, only which ones it may get: numbers and places
-//! are held against the document by the damaged files that are written down by hand.
+//! what is refused.
 
 use crate::catalog::Catalog;
 use crate::generate::{catalogs, names, plans, tables, values};
 use crate::guard::Lent;
 use crate::kinds::{self, Fields};
-use crate::library::{Refusal, Returned, Told};
+use crate::library::{Refusal, Returned};
 use crate::plan::{self, Member, PlannedRead};
 use crate::random::Random;
+use crate::refusals;
 
 /// A call that writes its answer: both files and the output a pointer and a length.
 pub type PlannedCall = unsafe extern "C" fn(*const u8, usize, *const u8, usize, u16, *mut u8, usize) -> u64;
-
-/// The refusals of a catalog and of a plan.
-pub const OF_CATALOGS: &[u8] = &[1, 2, 3, 4, 5, 6, 7];
-pub const OF_PLANS: &[u8] = &[1, 2, 3, 4, 5, 8];
 
 pub fn plan_chunks(function: PlannedCall, fields: &[Vec<u8>], out: &mut Lent<u8>) -> Returned {
     let catalog = Lent::new(&fields[0], 0xd7);
@@ -31,15 +27,8 @@ pub fn plan_chunks(function: PlannedCall, fields: &[Vec<u8>], out: &mut Lent<u8>
 
 /// The catalog is looked at first. A place is one of the file that is refused.
 pub fn refusal(fields: &[Vec<u8>]) -> Option<Refusal> {
-    let (catalog, plan) = (Catalog::read(&fields[0]).is_err(), plan::read(&fields[1]).is_err());
-    let of_catalog = Told::Among(OF_CATALOGS, fields[0].len() as u64);
-    let of_plan = Told::Among(OF_PLANS, fields[1].len() as u64);
-    match (catalog, plan) {
-        (false, false) => None,
-        (false, true) => Some(Refusal { told: of_plan, cause: "refused: the plan" }),
-        (true, false) => Some(Refusal { told: of_catalog, cause: "refused: the catalog" }),
-        (true, true) => Some(Refusal { told: of_catalog, cause: "refused: the catalog, the plan being bad too" }),
-    }
+    let causes = ["refused: the catalog", "refused: the plan", "refused: the catalog, the plan being bad too"];
+    Refusal::of_two(refusals::catalog(&fields[0]), refusals::plan(&fields[1]), causes)
 }
 
 /// A catalog with a plan by the Rust, at times with further reads, or with a plan that is made up; with a budget as

@@ -6,7 +6,7 @@ use std::sync::atomic::{AtomicU64, Ordering};
 use crate::compare::tests::{RIGHT, run};
 use crate::groups;
 use crate::library::Library;
-use crate::planned::PlannedCall;
+use crate::planned::{self, PlannedCall};
 
 /// A lent file.
 type File = (*const u8, usize);
@@ -19,9 +19,19 @@ pub(crate) fn written(answer: &[u8], out: *mut u8, room: usize) -> u64 {
     answer.len() as u64
 }
 
-unsafe fn answer(catalog: File, plan: File, budget: u16) -> Result<Vec<u8>, String> {
-    let bytes = |file: File| unsafe { std::slice::from_raw_parts(file.0, file.1) };
-    groups::plan_chunks(bytes(catalog), bytes(plan), budget)
+/// What is returned without the last byte if that is accepted, else what is returned with it.
+pub(crate) fn taken(without: u64, with: u64) -> u64 {
+    if without >> 56 == 0 { without } else { with }
+}
+
+/// The groups, or what is returned for files that are refused.
+unsafe fn answer(catalog: File, plan: File, budget: u16) -> Result<Vec<u8>, u64> {
+    let bytes = |file: File| unsafe { std::slice::from_raw_parts(file.0, file.1) }.to_vec();
+    let fields = [bytes(catalog), bytes(plan)];
+    match planned::refusal(&fields) {
+        Some(refusal) => Err(refusal.returned()),
+        None => Ok(groups::plan_chunks(&fields[0], &fields[1], budget).expect("accepted files are grouped")),
+    }
 }
 
 pub(crate) unsafe extern "C" fn plan_chunks(
@@ -35,7 +45,7 @@ pub(crate) unsafe extern "C" fn plan_chunks(
 ) -> u64 {
     match unsafe { answer((c, n), (p, m), budget) } {
         Ok(answer) => written(&answer, out, room),
-        Err(_) => 3 << 56,
+        Err(returned) => returned,
     }
 }
 
@@ -68,7 +78,7 @@ unsafe extern "C" fn lax(
 ) -> u64 {
     let returned = unsafe { plan_chunks(c, n, p, m, budget, out, room) };
     match returned >> 56 == 3 && m > 1 {
-        true => unsafe { plan_chunks(c, n, p, m - 1, budget, out, room) },
+        true => taken(unsafe { plan_chunks(c, n, p, m - 1, budget, out, room) }, returned),
         false => returned,
     }
 }
@@ -85,7 +95,7 @@ unsafe extern "C" fn fickle(
 ) -> u64 {
     static CALLS: AtomicU64 = AtomicU64::new(0);
     let returned = unsafe { plan_chunks(c, n, p, m, budget, out, room) };
-    match returned >> 56 == 3 && n > 0 && m > 0 {
+    match returned >> 56 == 3 {
         true => returned + CALLS.fetch_add(1, Ordering::Relaxed) % 2,
         false => returned,
     }
@@ -141,9 +151,9 @@ fn every_kind_of_damage_is_among_the_cases() {
 #[test]
 fn wrong_refusals_are_found() {
     assert!(wrong(hasty).contains("byte 0 of the output is 1"));
-    assert!(wrong(lax).contains("with a number of"));
+    assert!(wrong(lax).contains("with number 0, not"));
     assert!(wrong(fickle).contains("with number 3, not"));
-    assert!(wrong(far).contains("not at most"));
+    assert!(wrong(far).contains("with number 3, not"));
 }
 
 #[test]

@@ -1,0 +1,119 @@
+//! The comparison of all calls, held against the oracle itself and against libraries that do something wrong at a limit
+//! only.
+
+use super::{SHARES, all, split};
+use crate::compare::tests::RIGHT;
+use crate::cuts::tests::dig;
+use crate::library::Library;
+use crate::packed::tests::{chunks, packets};
+use crate::planned::tests::plan_chunks;
+
+fn run(library: Library, count: usize) -> (String, bool, Vec<String>) {
+    let mut told = Vec::new();
+    let (lines, same) = all(&library, count, 5, &mut |line| told.push(line)).expect("the comparison runs");
+    (lines.join("\n"), same, told)
+}
+
+/// The numbers of a row, the last being that of all calls.
+fn row(text: &str, name: &str) -> Vec<usize> {
+    let start = format!("| {name} | ");
+    let line = text.lines().find(|line| line.starts_with(&start)).unwrap_or_else(|| panic!("no row {name}"));
+    let cells = line.trim_end_matches('|').split('|').skip(2);
+    cells.map(|cell| cell.trim().parse().unwrap_or(0)).collect()
+}
+
+#[test]
+fn the_oracle_equals_itself_and_the_counts_add_up() {
+    let (text, same, told) = run(RIGHT, 3000);
+    assert!(same && text.contains("\n0 differences in "), "{text}");
+    assert_eq!(row(&text, "generated"), [900, 600, 300, 300, 450, 450, 3000]);
+    assert_eq!(row(&text, "differences"), [0; 7]);
+    let refused: Vec<_> = (1..=11).map(|number| format!("| refused, {number}: ")).collect();
+    let named = |line: &&str| refused.iter().any(|start| line.starts_with(start));
+    let names: Vec<_> = text.lines().filter(named).map(|line| line.split('|').nth(1).unwrap_or("").trim()).collect();
+    assert_eq!(names.len(), 11);
+    for column in 0..7 {
+        let refused: usize = names.iter().map(|name| row(&text, name)[column]).sum();
+        assert_eq!(row(&text, "accepted and equal")[column] + refused, row(&text, "cases")[column]);
+    }
+    for name in
+        ["extremes at a limit", "extremes over a limit", "by hand, to be accepted", "damaged, accepted and equal"]
+    {
+        assert!(row(&text, name).iter().all(|number| *number > 0), "{name}: {text}");
+    }
+    assert!(told.iter().any(|line| line.starts_with("plan: 900 of 900 cases")), "{told:?}");
+}
+
+#[test]
+fn cases_are_split_without_a_remainder() {
+    for count in [0, 99, 100, 12_345, 1_000_000] {
+        let parts = split(count);
+        assert_eq!(parts.iter().map(|(_, cases)| cases).sum::<usize>(), count);
+        assert!(parts[0].0 == "plan" && parts[0].1 * 5 >= count);
+    }
+    assert_eq!(SHARES.iter().map(|(_, share)| share).sum::<usize>(), 100);
+}
+
+/// Takes a value of 41 levels, by looking at it without its outermost array.
+unsafe extern "C" fn deeper(v: *const u8, n: usize, p: *const u8, m: usize) -> u64 {
+    match unsafe { dig(v, n, p, m) } {
+        returned if returned >> 56 == 10 => 1,
+        returned => returned,
+    }
+}
+
+/// Tells an entry too large by the number of entries.
+unsafe extern "C" fn counted(t: *const u64, n: usize, u: *const u64, m: usize, budget: u16) -> u64 {
+    match unsafe { packets(t, n, u, m, budget) } {
+        returned if returned == 5 << 56 | 255 => returned + 1,
+        returned => returned,
+    }
+}
+
+/// Writes a last byte past the room where one byte is missing.
+unsafe extern "C" fn cramped(
+    t: *const u64,
+    n: usize,
+    u: *const u64,
+    m: usize,
+    budget: u16,
+    out: *mut u8,
+    room: usize,
+) -> u64 {
+    let returned = unsafe { chunks(t, n, u, m, budget, out, room) };
+    if returned == 9 << 56 | (room as u64 + 1) {
+        unsafe { *out.add(room) = 0 };
+    }
+    returned
+}
+
+/// Takes a plan of 257 reads as one of none.
+unsafe extern "C" fn crowded(
+    c: *const u8,
+    n: usize,
+    p: *const u8,
+    m: usize,
+    budget: u16,
+    out: *mut u8,
+    room: usize,
+) -> u64 {
+    match unsafe { plan_chunks(c, n, p, m, budget, out, room) } {
+        returned if returned == 5 << 56 | 1 => 11,
+        returned => returned,
+    }
+}
+
+/// No case is generated here: what is found stands among the extremes or the cases by hand.
+#[test]
+fn mistakes_at_limits_are_found_without_generated_cases() {
+    for (library, found) in [
+        (Library { dig: deeper, ..RIGHT }, "dig differs at over 40 levels of arrays"),
+        (Library { packets: counted, ..RIGHT }, "packets differs at request 255 of 1099511627777"),
+        (Library { chunks: cramped, ..RIGHT }, "chunks differs at 256 entries, one byte short"),
+        (Library { plan_chunks: crowded, ..RIGHT }, "plan_chunks differs at over 1,024 tags"),
+    ] {
+        let (text, same, _) = run(library, 0);
+        assert!(!same && text.contains(found), "{found}: {text}");
+        assert_eq!(row(&text, "generated"), [0; 7]);
+    }
+}
