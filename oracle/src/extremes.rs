@@ -15,8 +15,8 @@ use crate::kinds::Fields;
 use crate::plan;
 use crate::refusals::SentBack;
 
-/// An input at a limit, and the same just over it with what is sent back. `over` stands for itself where nothing is over
-/// the limit, such as a budget of 65,535.
+/// An input at a limit, and the same just over it with what is sent back. Some limits have nothing over them: a budget of
+/// 65,535 is the largest number of its field.
 struct Pair {
     limit: String,
     at: Vec<u8>,

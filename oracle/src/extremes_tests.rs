@@ -7,6 +7,8 @@ use super::of;
 use crate::all::SHARES;
 use crate::compare;
 use crate::library::CALLS;
+use crate::plan::{self, PlannedRead};
+use crate::value;
 
 #[test]
 fn what_is_over_a_limit_is_refused_as_by_hand_and_nothing_else_is() {
@@ -71,5 +73,41 @@ fn every_limit_of_the_document_is_among_them() {
 fn calls_for_tests_have_none() {
     for call in CALLS.iter().filter(|call| SHARES.iter().all(|(name, _)| *name != call.name)) {
         assert!(of(call.name).is_empty());
+    }
+}
+
+/// The reads that the Rust plans for a case of `plan`.
+fn planned(what: &str) -> Vec<PlannedRead> {
+    let case = of("plan").into_iter().find(|case| case.what == what && case.sent_back.is_none());
+    let fields = case.unwrap_or_else(|| panic!("no case {what}")).fields;
+    plan::read(&plan::answer(&fields[0], &fields[1]).expect("an accepted case is planned")).expect("a plan")
+}
+
+#[test]
+fn what_is_at_a_limit_is_used() {
+    let sizes = |what: &str| planned(what).iter().map(|read| read.members.len()).collect::<Vec<_>>();
+    assert_eq!(sizes("256 elements of one array"), [256]);
+    assert_eq!(sizes("256 members, all listed"), [256]);
+    assert_eq!(sizes("1,024 tags, 256 of them listed").len(), 256);
+    assert_eq!(sizes("128 types, a struct of each listed"), [2; 128]);
+    assert_eq!(sizes("16 types deep, the innermost listed"), [16]);
+    assert_eq!(sizes("an element 1,000,000 that runs"), [2]);
+    assert_eq!(planned("64 together names, the last in use")[0].name, "Motor");
+    assert_eq!(planned("256 no-group names, the last in use")[0].name, "Motor.Speed");
+}
+
+/// Under 40 levels some path leads to the innermost value, and the longest index and name to theirs.
+#[test]
+fn paths_lead_to_what_is_at_a_limit() {
+    for (limit, place) in [
+        ("39 levels of arrays and a leaf", 274),
+        ("39 levels of structs and a leaf", 352),
+        ("20 structs, 19 arrays and a leaf", 314),
+        ("13,105 items in 65,536 bytes", 65_528),
+        ("a name of 128 bytes", 137),
+    ] {
+        let cases = of("dig").into_iter().filter(|case| case.what.starts_with(limit) && case.sent_back.is_none());
+        let cuts = cases.map(|case| value::dig(&case.fields[0], &case.fields[1]).expect("an accepted value is cut"));
+        assert!(cuts.into_iter().any(|cut| cut == u64::to_be_bytes(place)), "{limit}");
     }
 }

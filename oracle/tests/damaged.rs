@@ -1,5 +1,5 @@
 //! The damaged files, held against the oracle's own readers. These tell only whether a file is accepted; the numbers and
-//! places are compared by the replay.
+//! places are held against the refusals that the oracle works out, and compared by the replay.
 
 use oracle::catalog::Catalog;
 use oracle::damaged::{Case, catalogs, lists, plans, values};

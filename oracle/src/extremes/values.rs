@@ -3,7 +3,7 @@
 use super::{Pair, by_hand, plans};
 use crate::compare::Fixed;
 use crate::damaged;
-use crate::hand::values::{member, motor};
+use crate::hand::values::{leaf, member, motor};
 use crate::plan::{self, PlannedRead, Step};
 use crate::results::{self, LIMIT, Outcome};
 use crate::value::{self, Plain};
@@ -41,17 +41,13 @@ pub fn digs() -> Vec<Fixed> {
         }
     }
     let named = Plain::Struct(vec![("X".repeat(128), motor()), ("~".to_owned(), motor())]);
-    let deepest = (1..40).fold(motor_leaf(), |inner, _| Plain::Array(vec![inner]));
+    let deepest = (1..40).fold(leaf(7), |inner, _| Plain::Array(vec![inner]));
     for value in [named, deepest] {
         for pair in path_limits() {
             cases.extend(pair.cases(|path| vec![value::write(&value), path]));
         }
     }
     cases
-}
-
-fn motor_leaf() -> Plain {
-    crate::hand::values::leaf(7)
 }
 
 /// Paths at their limits: the key count stands at 0, the first key byte at 1 and its text at 2.
@@ -140,6 +136,6 @@ fn counts() -> Vec<Fixed> {
 /// A sorted answer that is longer than a file may be which is an input: 84 reads of 256 members, each cut.
 fn longest() -> Fixed {
     let read = PlannedRead { name: String::new(), members: vec![(String::new(), Some(vec![])); 256] };
-    let fields = vec![plan::write(&vec![read; 84]), results::write(&vec![Outcome::Value(motor_leaf()); 84])];
+    let fields = vec![plan::write(&vec![read; 84]), results::write(&vec![Outcome::Value(leaf(7)); 84])];
     Fixed { what: "a sorted answer of more than 65,536 bytes".to_owned(), fields, sent_back: None }
 }
