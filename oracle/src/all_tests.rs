@@ -1,7 +1,7 @@
 //! The comparison of all calls, held against the oracle itself and against libraries that do something wrong at a limit
 //! only.
 
-use super::{SHARES, all, split};
+use super::{CAUSES, SHARES, all, split};
 use crate::compare::tests::RIGHT;
 use crate::cuts::tests::dig;
 use crate::library::Library;
@@ -42,6 +42,26 @@ fn the_oracle_equals_itself_and_the_counts_add_up() {
         assert!(row(&text, name).iter().all(|number| *number > 0), "{name}: {text}");
     }
     assert!(told.iter().any(|line| line.starts_with("plan: 900 of 900 cases")), "{told:?}");
+}
+
+/// Each call is refused with the numbers that its inputs and its output can get, and with no other.
+#[test]
+fn refusals_are_counted_by_number() {
+    let (text, _, _) = run(RIGHT, 0);
+    let numbers: [&[usize]; 6] = [
+        &[1, 2, 3, 4, 5, 6, 7, 8, 9],
+        &[1, 2, 3, 4, 5, 6, 7, 8, 9],
+        &[5, 9, 11],
+        &[5, 11],
+        &[1, 2, 3, 4, 5, 6, 10],
+        &[1, 2, 3, 4, 5, 6, 8, 9, 10, 11],
+    ];
+    for number in 1..=11 {
+        let row = row(&text, &format!("refused, {number}: {}", CAUSES[number - 1]));
+        for (column, numbers) in numbers.iter().enumerate() {
+            assert_eq!(row[column] > 0, numbers.contains(&number), "{number} of {}", SHARES[column].0);
+        }
+    }
 }
 
 #[test]
