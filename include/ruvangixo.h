@@ -7,8 +7,8 @@
  *     (the caller sends the groups and writes down what came back, read by read: the results)
  *     plan + results  -> ruvangixo_sort         -> sorted    for each tag the place of its value in the results
  *
- * Link with target/staticlib/libembed.a, which `rt staticlib embed` proves and writes; it is for x86-64 and needs memcpy and
- * memset, nothing else. examples/c/ has a program that goes the whole way.
+ * Link with target/staticlib/libembed.a, which `rt staticlib embed` proves and writes; it is for x86-64 and needs memcpy,
+ * memmove and memset, nothing else. examples/c/ has a program that goes the whole way.
  *
  * What each call keeps to, for every input:
  *   - It reads its inputs, writes to `out` alone, and to nothing outside the lengths that it is given.
@@ -27,7 +27,7 @@
  *                                 measured    by the frames, at most
  *         ruvangixo_sort           602,447           603,392
  *         ruvangixo_dig            599,839           600,784
- *         ruvangixo_plan           310,231           310,520
+ *         ruvangixo_plan           341,959           342,248
  *         ruvangixo_plan_chunks     47,015            47,096
  *         ruvangixo_chunks, ruvangixo_packets: below 1,000
  *
@@ -78,6 +78,7 @@ extern "C" {
 #define RUVANGIXO_GROUPS_OUT_MAX 1035              /* 11 bytes, and 4 for each of 256 reads that are groups of their own */
 #define RUVANGIXO_SORTED_OUT_MAX 108800            /* 5 bytes, and 5 for each of the 21,759 members that a plan file has room for */
 #define RUVANGIXO_SORTED_PLANNED_MAX 1285          /* the same for a plan of ruvangixo_plan, which has 256 members at most */
+#define RUVANGIXO_TOKENS_OUT_MAX 541               /* 5 bytes, and 8 for each of 67 indexes, the most of a name */
 
 /* Why a call was refused. Every call returns one number: its top byte is one of these, its other 56 bits are what the cause
  * returns. A place is counted in bytes from the start of the input that is refused. */
@@ -184,6 +185,56 @@ uint64_t ruvangixo_dig(const uint8_t *value, size_t value_length,
 uint64_t ruvangixo_sort(const uint8_t *plan, size_t plan_length,
                         const uint8_t *results, size_t results_length,
                         uint8_t *out, size_t out_length);
+
+/* For tests, and to look at single steps. A name given by itself is checked as the name of a plan's read is. */
+
+/* Checks a catalog.
+ *   takes     catalog: a catalog file
+ *   returned  0
+ *   refuses   1 to 7 */
+uint64_t ruvangixo_catalog(const uint8_t *catalog, size_t catalog_length);
+
+/* Measures the request, or the reply, of a read.
+ *   takes     catalog: a catalog file
+ *             name: the name that is read, at most 136 bytes
+ *   returned  the bytes that it takes in a packet
+ *   refuses   1 to 7 for the catalog; 4, 5 and 8 for the name */
+uint64_t ruvangixo_request_size(const uint8_t *catalog, size_t catalog_length,
+                                const uint8_t *name, size_t name_length);
+uint64_t ruvangixo_reply_size(const uint8_t *catalog, size_t catalog_length,
+                              const uint8_t *name, size_t name_length);
+
+/* Measures a struct.
+ *   takes     the catalog and the name as ruvangixo_request_size does
+ *   returned  the bytes of the struct that the name leads to; all 56 bits set where it leads to none that can be read whole
+ *   refuses   1 to 7 for the catalog; 4, 5 and 8 for the name */
+uint64_t ruvangixo_struct_size(const uint8_t *catalog, size_t catalog_length,
+                               const uint8_t *name, size_t name_length);
+
+/* Splits a name into its tokens.
+ *   takes     name: any bytes, at most 136
+ *   gives     in `out` the number of tokens (1), 0 where the name has none; for each where it ends in the name (1), the number of
+ *             its indexes (1), and the indexes (8 each)
+ *   returned  the bytes written, at most RUVANGIXO_TOKENS_OUT_MAX
+ *   refuses   5 where the name is longer, returned: 0; 9 */
+uint64_t ruvangixo_tokens(const uint8_t *name, size_t name_length,
+                          uint8_t *out, size_t out_length);
+
+/* Leaves the brackets and braces out of a path, with what stands in them.
+ *   takes     path: any bytes
+ *   gives     in `out` the path without them
+ *   returned  the bytes written, at most as many as the path has
+ *   refuses   9 */
+uint64_t ruvangixo_strip(const uint8_t *path, size_t path_length,
+                         uint8_t *out, size_t out_length);
+
+/* Tells whether a name is a run of elements, `A{n}`.
+ *   takes     name: any bytes, at most 136
+ *   gives     in `out` the byte 0, or the byte 1, the length of `A` (1) and n (8)
+ *   returned  the bytes written, 1 or 10
+ *   refuses   5 where the name is longer, returned: 0; 9 */
+uint64_t ruvangixo_range(const uint8_t *name, size_t name_length,
+                         uint8_t *out, size_t out_length);
 
 #ifdef __cplusplus
 }
