@@ -50,7 +50,7 @@ fn timed(call: impl Fn() -> u64) -> (u64, u128) {
 }
 
 /// As many tags as there may be, all names equal but for their last bytes and on one chain.
-fn one_chain() -> Catalog {
+pub fn one_chain() -> Catalog {
     let length = (LIMIT - 5) / MOST_TAGS - 6;
     let digits = b"0123456789abcdefghijklmnopqrstuvwxyz";
     let mut tags = Vec::new();
@@ -69,7 +69,7 @@ fn chain(name: &str) -> usize {
 }
 
 /// A row of types, each with as many members of the next as a type may have.
-fn many_ways() -> Catalog {
+pub fn many_ways() -> Catalog {
     let member = |of: usize, n: usize| node(format!("{n:02x}"), format!("{:x}", of + 1));
     let members = |of: usize| match of + 1 {
         DEEPEST => Vec::new(),
@@ -80,7 +80,7 @@ fn many_ways() -> Catalog {
 }
 
 /// Types with long names that differ at their ends only, and members of types with such names that are not listed.
-fn unlisted() -> Catalog {
+pub fn unlisted() -> Catalog {
     let named = |n: usize| format!("{}{n:03}", "t".repeat(61));
     let mut left = LIMIT - 5 - MOST_TYPES * 70;
     let mut types = Vec::new();

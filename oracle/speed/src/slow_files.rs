@@ -1,17 +1,16 @@
 //! Files inside the limits that make the other calls slow: catalogs to be checked, plans to be packed, values to be cut
 //! and results to be sorted.
 
-use oracle::catalog::{Catalog, LIMIT, MOST_MEMBERS, MOST_TAGS, MOST_TYPES, Node, STRUCT, Type};
-use oracle::hand::shapes::{atomic, structure, type_of};
+use oracle::catalog::{Catalog, MOST_TAGS, Node};
+use oracle::hand::shapes::atomic;
 use oracle::plan::{PlannedRead, Step};
 use oracle::random::Random;
 use oracle::results::Outcome;
 use oracle::value::Plain;
+use oracle::worst::{many_ways, one_chain, unlisted};
 
 use crate::far;
 
-/// The chains that names are put on by the check for names that are alike.
-const CHAINS: usize = 1024;
 /// The most members that one read of a plan serves.
 const CUTS: usize = 256;
 
@@ -22,43 +21,6 @@ pub fn catalogs() -> Vec<(&'static str, Catalog)> {
         ("members of types that are none of the 128", unlisted()),
         ("9,000 members of 128 types", far::deep_catalog()),
     ]
-}
-
-/// As many tags as there may be, all names equal but for their last bytes and on one chain.
-fn one_chain() -> Catalog {
-    let front = "a".repeat((LIMIT - 5) / MOST_TAGS - 10);
-    let digits = b"0123456789abcdefghijklmnopqrstuvwxyz";
-    let end = |n: usize| (0..4).map(move |i| char::from(digits[n / 36usize.pow(i) % 36]));
-    let names = (0..36usize.pow(4)).map(|n| front.chars().chain(end(n)).collect::<String>());
-    let chain = |name: &String| name.bytes().fold(0, |h, b| (h * 31 + usize::from(b)) % CHAINS);
-    let tags = names.filter(|name| chain(name) == 0).take(MOST_TAGS);
-    Catalog { tags: tags.map(|name| Node { name, ..Node::default() }).collect(), types: Vec::new() }
-}
-
-/// A row of types, each with as many members of the next as a type may have.
-fn many_ways() -> Catalog {
-    let member = |of: usize, n: usize| node(format!("{n:02x}"), format!("{:x}", of + 1));
-    let members = |of: usize| (0..if of < 15 { MOST_MEMBERS } else { 0 }).map(|n| member(of, n)).collect();
-    let types = (0..16).map(|n| type_of(&format!("{n:x}"), 8, members(n)));
-    Catalog { tags: vec![structure("A", "0", 8, &[])], types: types.collect() }
-}
-
-/// Types with long names that differ at their ends only, and members of types with such names that are not listed.
-fn unlisted() -> Catalog {
-    let named = |n: usize| format!("{}{n:03}", "t".repeat(61));
-    let mut left = LIMIT - 5 - MOST_TYPES * 70;
-    let mut types = Vec::new();
-    for n in 0..MOST_TYPES {
-        let count = MOST_MEMBERS.min(left / 72);
-        left -= count * 72;
-        let members = (0..count).map(|m| node(format!("{m:02x}"), named(500 + m))).collect();
-        types.push(Type { name: named(n), members, ..Type::default() });
-    }
-    Catalog { tags: Vec::new(), types }
-}
-
-fn node(name: String, type_name: String) -> Node {
-    Node { name, type_name, kind: STRUCT, ..Node::default() }
 }
 
 /// Catalogs with the reads of a plan.
