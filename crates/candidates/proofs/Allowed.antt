@@ -85,11 +85,6 @@ module _ (nm : ℕ → Text) (first : ℕ → Bool) where
         of-wholes nm first (λ b. isAllowed w ts (bunchAbove nm b) ≡ (leb (b .weight) (w .wholeMax) || isListed nm b)) ts h
         (λ r e. ap (λ x. leb (r .size) (w .wholeMax) || x) (sym (row-itself r e)))
 
--- THEOREM: the struct of a group is itself listed just where a tag that the group serves has as many bytes as the struct's name
-pub itself-are : (c : Catalog) (w : TagList) (nm : ℕ → Text) (first : ℕ → Bool) → Listing c w nm first
-    → All (λ (b : Bunch). isListed nm b ≡ any (isItself (bunchKey nm b)) (tagsOf c w)) (wholesIn nm first (rowsFrom 0 (tagsOf c w)))
-itself-are c w nm first h = itself-told nm first (tagsOf c w) (tags-told c w nm first h)
-
 -- THEOREM: the groups of the structs that are not too large, or listed
 pub allowed-are : (c : Catalog) (w : TagList) (nm : ℕ → Text) (first : ℕ → Bool) → Listing c w nm first
     → map (groupOf nm) (keep (λ b. leb (b .weight) (w .wholeMax) || isListed nm b) (wholesIn nm first (rowsFrom 0 (tagsOf c w))))

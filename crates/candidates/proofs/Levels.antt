@@ -38,13 +38,6 @@ pub record Leveled (nm : ℕ → Text) (b : Bunch) : Type 0 where
   pub within : bunchLevel nm b ≤ length (tokensOf (nm (b .tag)))
 
 module _ (c : Catalog) (w : TagList) (nm : ℕ → Text) (first : ℕ → Bool) (h : Listing c w nm first) where
-  -- THEOREM: the levels of the planner's structs are the counts of the tokens of the groups' names
-  pub levels-are : map (λ a. a .level) (structsOf (tagsOf c w)) ≡ map (bunchLevel nm) (wholesIn nm first (rowsFrom 0 (tagsOf c w)))
-  unfolding bunchAbove namedAbove
-  levels-are =
-      ap (map (λ a. a .level)) (sym (structs-are c w nm first h))
-      ∙ map-map (λ a. a .level) (bunchAbove nm) (wholesIn nm first (rowsFrom 0 (tagsOf c w)))
-
   -- THEOREM: of each group between one and the count of the tokens of its tag
   pub levels-within : All (Leveled nm) (wholesIn nm first (rowsFrom 0 (tagsOf c w)))
   unfolding bunchOf bunchName

@@ -129,9 +129,6 @@ module _ (p : Text) (r : LaterText p) where
   unfolding indexIn indexKey
   index-number u is e = go (numeralOf u) refl is e
     where
-      none-item : (i : ℕ) → numeralOf u ≡ none → indexesOf u ≡ some (i ∷ []) → none ≡ some i
-      none-item i a b = sym a ∙ one-index u i b
-
       same-list : (n : ℕ) (js : List ℕ) → numeralOf u ≡ some n → indexesOf u ≡ some js → js ≡ n ∷ []
       same-list n js a b = let z : some js ≡ some (n ∷ []) = sym b ∙ numeral-index u n a in cc
 

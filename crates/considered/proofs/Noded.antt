@@ -24,6 +24,7 @@ use Rattle.catalog.specs.Catalog.{Catalog, node, catalogOf}
 use Rattle.catalog.specs.Finding.{any, holds}
 use Rattle.nodes.specs.Placed.{foundTold}
 use Rattle.nodes.specs.Reading.{foundIn, toldAt, nodeRead}
+use Rattle.nodes.specs.Tabled.{catalogAt, Tabled}
 use Rattle.nodes.specs.declared.Node.{Node as Read}
 use Rattle.nodes.specs.declared.Found.{Found}
 use Rattle.nodes.specs.declared.Found.the-variants.{At, Nowhere}
@@ -35,10 +36,11 @@ use Rattle.lookup.specs.declared.Bytes.the-variants.{Unknown}
 use Rattle.lookup.proofs.Placed.{info-is}
 use Rattle.sizes.specs.Sizes.{isBits, isEmpty, requestSize, replySize, sizeFrom, readSize, elementSize}
 use Rattle.sizes.specs.Told.{boundedRequest, sizeTold}
+use Rattle.sizes.proofs.Named.{request-whole}
 use Rattle.sizes.specs.declared.Size.{Size as Told}
 use Rattle.structs.specs.Structs.{markedIn}
 use Rattle.structs.proofs.Marked.{marked-in}
-use Rattle.catalog.specs.Alike.{typesStart}
+use Rattle.catalog.specs.Alike.{typePlaces}
 use Rattle.lists.specs.Lists.{listOf}
 use Rattle.planner.specs.Tags.{endsInName, isBarred, isUnindexed, aboveOf, wholeAt, structAt}
 use Rattle.planner.specs.Serving.{once}
@@ -142,11 +144,11 @@ module _ (s name : List ℕ) (k : ℕ) (l : Leading s name k) where
   read-some u h e = rw (node-some h) (ap not e)
 
   -- ---- the sizes of a plain read
-  pub plain-is : (request reply : ℕ) (f : Found) → length name ≤ longestName → request ≡ boundedRequest (catalogOf s) name → f ≡ foundBy k → reply ≡ replySize (foundIn s f)
+  pub plain-is : (request reply : ℕ) (f : Found) → length name ≤ longestName → (ts ps : List ℕ) → Tabled s ts ps → request ≡ boundedRequest (catalogAt s ts ps) name → f ≡ foundBy k → reply ≡ replySize (foundIn s f)
       → _≡_ {A = Told} (record { request = request; reply = reply }) (sizeTold (readSize (catalogOf s) name))
   unfolding boundedRequest sizeTold readSize sizeFrom
-  plain-is request reply f m e g q =
-      let a : request ≡ requestSize (catalogOf s) name = rw (le-ltb longestName (length name) m) at e in
+  plain-is request reply f m ts ps w e g q =
+      let a : request ≡ requestSize (catalogOf s) name = rw (le-ltb longestName (length name) m) at (request-whole s ts ps name w request e) in
       let b : reply ≡ replySize (infoOf (catalogOf s) name) = q ∙ ap (λ x. replySize (foundIn s x)) g ∙ ap replySize node-is in
       rw (named-no-range name (tokensOf name) (name-read name (l .some-tokens)), a, b)
 
@@ -192,7 +194,7 @@ module _ (s name list marks : List ℕ) (k : ℕ) (l : Leading s name k) where
       unfolding bytesTold isBarred andThen wholeAt
       struct-unindexed z = rw (size-is (catalogOf s) name list (l .some-tokens), ← e, y, node-some s name k l n, ← f, z)
 
-      pub struct-whole : (r : Bytes) (types : ℕ) → u ≡ false → Whole s marks → types ≡ typesStart s → r ≡ bytesTold (andThen (foundIn s (At (k - 1))) (markedIn s types marks))
+      pub struct-whole : (r : Bytes) (types : List ℕ) → u ≡ false → Whole s marks → types ≡ typePlaces s → r ≡ bytesTold (andThen (foundIn s (At (k - 1))) (markedIn s types marks))
           → r ≡ bytesTold (sizeIn (structAt (catalogOf s) (listOf list) (tokensOf name)))
       unfolding isBarred andThen wholeAt foundIn
       struct-whole r types z w t q =

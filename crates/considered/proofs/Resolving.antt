@@ -21,7 +21,8 @@ use Rattle.names.proofs.Tokens.{later-long}
 use Rattle.names.proofs.Spelling.{tokens-are, no-tokens}
 use Rattle.names.proofs.Walking.{StepRead, StepTells, step-tells, FirstTells, first-tells}
 use Rattle.names.proofs.Onward.{Reached, reached-first, first-stops, first-ends, reached-spelled, reached-end, reached-few, reached-next, reached-all, reached-stops}
-use Rattle.nodes.specs.Placed.{foundTold, tagPlace}
+use Rattle.catalog.specs.Alike.{tagPlaces}
+use Rattle.nodes.specs.Placed.{foundTold, nodePlace, tagPlace}
 use Rattle.nodes.specs.declared.Found.{Found}
 use Rattle.nodes.proofs.Inside.{Below, below-either, tag-inside}
 use Rattle.lookup.specs.Placed.{memberPlace, infoPlace}
@@ -122,6 +123,10 @@ first-plain t e n q = let f = subst (FirstTells t) q (first-tells t) in q ∙ ap
 
 pub first-within : (t : List ℕ) (base : ℕ) → firstStep t ≡ AToken base 0 → base ≤ length t
 first-within t base q = reached-first t base 0 q .reached .within
+
+-- what the table of all tags tells is what the file tells
+pub tag-told : (s ts t : List ℕ) (f : Found) → ts ≡ tagPlaces s → f ≡ foundTold (nodePlace s t ts) → f ≡ foundTold (tagPlace s t)
+tag-told s ts t f e g = g ∙ ap (λ x. foundTold (nodePlace s t x)) e
 
 module _ (s t : List ℕ) (base : ℕ) (path : Found) (q : firstStep t ≡ AToken base 0) (h : path ≡ foundTold (tagPlace s (take base t))) where
   first-inside : Below (length s) (placeIn path)

@@ -12,7 +12,7 @@ use Rattle.nodes.specs.Placed.{foundTold}
 use Rattle.nodes.specs.declared.Found.{Found}
 use Rattle.nodes.specs.declared.Found.the-variants.{At, Nowhere}
 use Rattle.nodes.proofs.Inside.{Below}
-use Rattle.catalog.specs.Alike.{typesStart}
+use Rattle.catalog.specs.Alike.{typePlaces}
 use Rattle.lookup.specs.Placed.{memberPlaceIn, memberPlace}
 use Rattle.considered.specs.Levels.{placeTold}
 use Rattle.considered.specs.Found.{placeIn, placeBehind}
@@ -69,6 +69,6 @@ module _ (s : List ℕ) (f : Found) (a : Text) (n : ℕ) where
   unfolding placeIn andThen
   behind-nowhere z e = sym (name-behind z ∙ ap (λ x. andThen (placeIn x) (λ p. memberPlace s p a)) e)
 
-  pub behind-found : (types p : ℕ) (r : Found) → types ≡ typesStart s → n ≡ 0 → f ≡ At p → r ≡ foundTold (memberPlaceIn s types p a) → placeIn r ≡ placeBehind s (placeIn f) a n
-  unfolding placeIn andThen memberPlace
+  pub behind-found : (types : List ℕ) (p : ℕ) (r : Found) → types ≡ typePlaces s → n ≡ 0 → f ≡ At p → r ≡ foundTold (memberPlaceIn s types p a) → placeIn r ≡ placeBehind s (placeIn f) a n
+  unfolding placeIn andThen
   behind-found types p r q z e g = place-found r (memberPlaceIn s types p a) g ∙ ap (λ x. memberPlaceIn s x p a) q ∙ sym (name-behind z ∙ ap (λ x. andThen (placeIn x) (λ p. memberPlace s p a)) e)

@@ -13,7 +13,9 @@ use Rattle.catalog.specs.Catalog.{Catalog, catalogOf}
 use Rattle.catalog.specs.Finding.{holds}
 use Rattle.lookup.specs.Info.{infoOf}
 use Rattle.sizes.specs.Sizes.{readSize}
+use Rattle.nodes.specs.Tabled.{catalogAt, Tabled}
 use Rattle.sizes.specs.Told.{sizeTold, boundedSize}
+use Rattle.sizes.proofs.Named.{read-whole}
 use Rattle.sizes.specs.declared.Size.{Size}
 use Rattle.sizes.proofs.Counts.{size-is}
 use Rattle.lists.specs.Lists.{TagList, listOf}
@@ -78,10 +80,10 @@ module _ (catalog list t : List ℕ) (known : Bool) (tag : ℕ) (o l z : List �
         put = subst (λ x. RowsPut (map (rowOf tag) x) o l z from o l z from) a (put-none o l z from k h);
       })
 
-  pub view-none : (n : ℕ) (r : View) → Columns o l z → from ≤ 16384 → Limited t → n ≡ length (tokensOf t) → n ≡ 0 → size ≡ boundedSize (catalogOf catalog) t → r ≡ plainView size from
+  pub view-none : (n : ℕ) (r : View) → Columns o l z → from ≤ 16384 → Limited t → n ≡ length (tokensOf t) → n ≡ 0 → (ts ps : List ℕ) → Tabled catalog ts ps → size ≡ boundedSize (catalogAt catalog ts ps) t → r ≡ plainView size from
       → ViewTold catalog list t known tag o l z from o l z r
-  view-none n r k h f e y s q =
-      plain-told r k h q (plain-size (catalogOf catalog) t size f s) (none-above (catalogOf catalog) (listOf list) t known (sym y ∙ e))
+  view-none n r k h f e y ts ps w s q =
+      plain-told r k h q (plain-size (catalogOf catalog) t size f (read-whole catalog ts ps t w size s)) (none-above (catalogOf catalog) (listOf list) t known (sym y ∙ e))
       (none-element (catalogOf catalog) (listOf list) t known (sym y ∙ e))
 
   module _ (b : Bool) (e : b ≡ isCounted (catalogOf catalog) t known) (s : size ≡ sizeTold (readSize (catalogOf catalog) t)) where

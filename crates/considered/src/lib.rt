@@ -16,13 +16,13 @@ use names::Step;
 use names::walk::first_token;
 use names::walk::next_token;
 use nodes::Found;
-use nodes::find::find_tag;
-use nodes::place::types_start;
+use nodes::find::find_node_in;
+use nodes::table::type_places;
 use nodes::value::node_at;
 use sizes::Size;
 use sizes::reply::element_size;
 use sizes::reply::is_bits;
-use sizes::reply::read_size;
+use sizes::reply::read_size_in;
 use sizes::reply::reply_size;
 use sizes::request::request_size;
 use structs::struct_size;
@@ -42,10 +42,11 @@ ghost use Rattle.names.specs.Name.{laterToken, tokensOf};
 ghost use Rattle.names.specs.Listing.{longestName};
 ghost use Rattle.names.specs.Steps.{firstStep};
 ghost use Rattle.names.specs.declared.Step.{Step};
-ghost use Rattle.catalog.specs.Alike.{typesStart};
+ghost use Rattle.catalog.specs.Alike.{typePlaces};
 ghost use Rattle.catalog.specs.Catalog.{node, catalogOf};
 ghost use Rattle.catalog.specs.Finding.{holds};
 ghost use Rattle.nodes.specs.Reading.{foundIn};
+ghost use Rattle.nodes.specs.Tabled.{Tabled};
 ghost use Rattle.lookup.specs.Told.{bytesTold};
 ghost use Rattle.lookup.specs.Info.{infoOf};
 ghost use Rattle.lists.specs.Lists.{listOf, listVerdict};
@@ -101,9 +102,9 @@ fn either(a: Found, b: Found) -> Found
 }
 
 // The node behind a token, of which t stands behind the first byte: the member of that name, or behind a bracket the same node.
-// The types start at a place.
-fn token_step(catalog: &[u8], types: usize, node: Found, t: &[u8], indexes: usize) -> Found
-    requires { ⌜ types ≡ typesStart (now catalog) ⌝ }
+// The catalog's types stand at these places.
+fn token_step(catalog: &[u8], types: &[usize], node: Found, t: &[u8], indexes: usize) -> Found
+    requires { ⌜ now types ≡ typePlaces (now catalog) ⌝ }
     ensures { λ r. ⌜ placeIn r ≡ placeBehind (now (catalog .entry)) (placeIn node) (now (t .entry)) indexes ⌝ }
 {
     if indexes != 0 {
@@ -115,22 +116,24 @@ fn token_step(catalog: &[u8], types: usize, node: Found, t: &[u8], indexes: usiz
     }
 }
 
-// Where the tokens of a name end, and the nodes that the tokens up to each lead to; how many tokens there are.
+// Where the tokens of a name end, and the nodes that the tokens up to each lead to; how many tokens there are. The bases are where the
+// catalog's tags stand.
 fn resolve(
     catalog: &[u8],
-    types: usize,
+    bases: &[usize],
+    types: &[usize],
     name: &[u8],
     ends: &mut [usize; 64],
     nodes: &mut [usize; 64],
 ) -> usize
-    requires { ⌜ (length (now name) ≤ 128) × (types ≡ typesStart (now catalog)) ⌝ }
+    requires { ⌜ (length (now name) ≤ 128) × Tabled (now catalog) (now bases) (now types) ⌝ }
     ensures count { λ r. ⌜ (r ≡ length (tokensOf (now (name .entry)))) × (r ≤ 64) ⌝ }
     ensures ends { λ r. ⌜ take r (now (ends .exit)) ≡ levelEnds (now (name .entry)) ⌝ }
     ensures nodes { λ r. ⌜ take r (now (nodes .exit)) ≡ levelNodes (now (catalog .entry)) (now (name .entry)) ⌝ }
 {
     let first = first_token(name);
     match first {
-        Step::Token(base, _) => resolve_from(catalog, types, name, base, ends, nodes),
+        Step::Token(base, _) => resolve_from(catalog, bases, types, name, base, ends, nodes),
         Step::End => 0,
         Step::Stops(_) => 0,
     }
@@ -139,7 +142,8 @@ fn resolve(
 // The same of a name whose first token ends at base.
 fn resolve_from(
     catalog: &[u8],
-    types: usize,
+    bases: &[usize],
+    types: &[usize],
     name: &[u8],
     base: usize,
     ends: &mut [usize],
@@ -147,12 +151,12 @@ fn resolve_from(
 ) -> usize
     requires name { ⌜ (firstStep (now name) ≡ Step.Token base 0) × (length (now name) ≤ 128) ⌝ }
     requires room { ⌜ (length (now ends) ≡ 64) × (length (now nodes) ≡ 64) ⌝ }
-    requires types { ⌜ types ≡ typesStart (now catalog) ⌝ }
+    requires tables { ⌜ Tabled (now catalog) (now bases) (now types) ⌝ }
     ensures count { λ r. ⌜ (r ≡ length (tokensOf (now (name .entry)))) × (r ≤ 64) ⌝ }
     ensures ends { λ r. ⌜ take r (now (ends .exit)) ≡ levelEnds (now (name .entry)) ⌝ }
     ensures nodes { λ r. ⌜ take r (now (nodes .exit)) ≡ levelNodes (now (catalog .entry)) (now (name .entry)) ⌝ }
 {
-    let mut path = find_tag(catalog, &name[..base]);
+    let mut path = find_node_in(catalog, bases, &name[..base]);
     ends[0] = base;
     nodes[0] = told_place(path);
     let mut at = base;
@@ -162,7 +166,7 @@ fn resolve_from(
         match step {
             Step::Token(e, k) => {
                 path = token_step(catalog, types, path, &name[at + 1..e], k);
-                let tag = find_tag(catalog, &name[..e]);
+                let tag = find_node_in(catalog, bases, &name[..e]);
                 ends[n] = e;
                 nodes[n] = told_place(either(tag, path));
                 n += 1;
@@ -205,12 +209,12 @@ fn is_unindexed(catalog: &[u8], name: &[u8], at: usize) -> bool
 fn struct_at(
     catalog: &[u8],
     list: &[u8],
-    types: usize,
+    types: &[usize],
     marks: &[u8; 128],
     name: &[u8],
     node: usize,
 ) -> Bytes
-    requires { ⌜ Leading (now catalog) (now name) node × Whole (now catalog) (now marks) × (types ≡ typesStart (now catalog)) ⌝ }
+    requires { ⌜ Leading (now catalog) (now name) node × Whole (now catalog) (now marks) × (now types ≡ typePlaces (now catalog)) ⌝ }
     ensures { λ r. ⌜ r ≡ bytesTold (sizeIn (structAt (catalogOf (now (catalog .entry))) (listOf (now (list .entry))) (tokensOf (now (name .entry))))) ⌝ }
 {
     if node == 0 {
@@ -304,7 +308,7 @@ fn put_row(
 fn climb(
     catalog: &[u8],
     list: &[u8],
-    types: usize,
+    types: &[usize],
     marks: &[u8; 128],
     name: &[u8],
     ends: &[usize; 64],
@@ -316,7 +320,7 @@ fn climb(
     sizes: &mut [u16],
     from: usize,
 ) -> usize
-    requires { ⌜ Levelled (now catalog) (now name) (now ends) (now nodes) × (n ≡ length (tokensOf (now name))) × Whole (now catalog) (now marks) × (types ≡ typesStart (now catalog)) × (tag < 256) × Columns (now owners) (now lengths) (now sizes) × (from + 64 ≤ 16384) ⌝ }
+    requires { ⌜ Levelled (now catalog) (now name) (now ends) (now nodes) × (n ≡ length (tokensOf (now name))) × Whole (now catalog) (now marks) × (now types ≡ typePlaces (now catalog)) × (tag < 256) × Columns (now owners) (now lengths) (now sizes) × (from + 64 ≤ 16384) ⌝ }
     ensures { λ r. ⌜ RowsPut (map (rowOf tag) (aboveFrom (catalogOf (now (catalog .entry))) (listOf (now (list .entry))) (tokensOf (now (name .entry))) n)) (now (owners .entry)) (now (lengths .entry)) (now (sizes .entry)) from (now (owners .exit)) (now (lengths .exit)) (now (sizes .exit)) r ⌝ }
 {
     let mut k = n;
@@ -391,12 +395,12 @@ fn element_of(
 }
 
 // The sizes of a plain read of a name that leads to a node.
-fn plain_size(catalog: &[u8], name: &[u8], node: usize) -> Size
-    requires { ⌜ Leading (now catalog) (now name) node × (length (now name) ≤ longestName) ⌝ }
+fn plain_size(catalog: &[u8], bases: &[usize], types: &[usize], name: &[u8], node: usize) -> Size
+    requires { ⌜ Leading (now catalog) (now name) node × (length (now name) ≤ longestName) × Tabled (now catalog) (now bases) (now types) ⌝ }
     ensures { λ r. ⌜ r ≡ sizeTold (readSize (catalogOf (now (catalog .entry))) (now (name .entry))) ⌝ }
 {
     Size {
-        request: request_size(catalog, name),
+        request: request_size(catalog, bases, types, name),
         reply: reply_size(catalog, found_at(node)),
     }
 }
@@ -439,7 +443,8 @@ fn plain_view(size: Size, rows: usize) -> View
 fn view_tag(
     catalog: &[u8],
     list: &[u8],
-    types: usize,
+    bases: &[usize],
+    types: &[usize],
     marks: &[u8; 128],
     name: &[u8],
     tag: usize,
@@ -449,17 +454,17 @@ fn view_tag(
     sizes: &mut [u16],
     from: usize,
 ) -> View
-    requires { ⌜ Limited (now name) × Whole (now catalog) (now marks) × (types ≡ typesStart (now catalog)) × (tag < 256) × Columns (now owners) (now lengths) (now sizes) × (from + 64 ≤ 16384) ⌝ }
+    requires { ⌜ Limited (now name) × Whole (now catalog) (now marks) × Tabled (now catalog) (now bases) (now types) × (tag < 256) × Columns (now owners) (now lengths) (now sizes) × (from + 64 ≤ 16384) ⌝ }
     ensures { λ r. ⌜ ViewTold (now (catalog .entry)) (now (list .entry)) (now (name .entry)) known tag (now (owners .entry)) (now (lengths .entry)) (now (sizes .entry)) from (now (owners .exit)) (now (lengths .exit)) (now (sizes .exit)) r ⌝ }
 {
     let mut ends = [0; 64];
     let mut nodes = [0; 64];
-    let n = resolve(catalog, types, name, &mut ends, &mut nodes);
+    let n = resolve(catalog, bases, types, name, &mut ends, &mut nodes);
     if n == 0 {
-        return plain_view(read_size(catalog, name), from);
+        return plain_view(read_size_in(catalog, bases, types, name), from);
     }
     let node = nodes[n - 1];
-    let size = plain_size(catalog, name, node);
+    let size = plain_size(catalog, bases, types, name, node);
     if is_counted(catalog, name, node, known) {
         let element = element_of(catalog, list, name, &ends, &nodes, n);
         let rows = climb(
@@ -573,7 +578,8 @@ fn put_view(
 fn view_tags(
     catalog: &[u8],
     list: &[u8],
-    types: usize,
+    bases: &[usize],
+    types: &[usize],
     marks: &[u8; 128],
     places: &[usize; 256],
     tags: usize,
@@ -587,7 +593,7 @@ fn view_tags(
     lengths: &mut [u8],
     sizes: &mut [u16],
 ) -> usize
-    requires files { ⌜ (listVerdict (now list) ≡ fine) × Whole (now catalog) (now marks) × (types ≡ typesStart (now catalog)) × TagsPlaced (now list) (now places) × (tags ≡ length (listOf (now list) .tags)) ⌝ }
+    requires files { ⌜ (listVerdict (now list) ≡ fine) × Whole (now catalog) (now marks) × Tabled (now catalog) (now bases) (now types) × TagsPlaced (now list) (now places) × (tags ≡ length (listOf (now list) .tags)) ⌝ }
     requires columns { ⌜ TagColumns (now firsts) (now widths) (now indexes) (now arrays) (now requests) (now replies) × Columns (now owners) (now lengths) (now sizes) ⌝ }
     ensures count { λ r. ⌜ (r ≡ length (rowsFrom 0 (tagsOf (catalogOf (now (catalog .entry))) (listOf (now (list .entry)))))) × (r ≤ 16384) ⌝ }
     ensures firsts { λ r. ⌜ now (firsts .exit) ≡ answered (map (λ t. once (t .first)) (tagsOf (catalogOf (now (catalog .entry))) (listOf (now (list .entry))))) (now (firsts .entry)) ⌝ }
@@ -611,6 +617,7 @@ fn view_tags(
         let v = view_tag(
             catalog,
             list,
+            bases,
             types,
             marks,
             &list[start..end],
@@ -689,11 +696,16 @@ pub fn consider(
 {
     let mut marks = [0; 128];
     if is_viewed(catalog, list, &mut marks) {
+        let mut bases = [0; 1024];
+        let mut types = [0; 128];
+        let n = nodes::table::tag_places(catalog, &mut bases);
+        let k = type_places(catalog, &mut types);
         let tags = tag_places(list, places);
         let rows = view_tags(
             catalog,
             list,
-            types_start(catalog),
+            &bases[..n],
+            &types[..k],
             &marks,
             places,
             tags,

@@ -1,5 +1,6 @@
 pub mod Chains
 pub mod Checks
+pub mod Columns
 pub mod Decimals
 pub mod Filling
 pub mod Indexes

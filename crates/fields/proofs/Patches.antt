@@ -46,6 +46,19 @@ answered-more d A t out h e =
     rw e (patch-fits (A ++ D) (length A) t (omega arith)
     ∙ rw (take-append-seam A D, drop-append-add A D (length t), drop-drop (length t) (length A) d, length-append A t))
 
+-- the front of an answer
+pub answer-front : (file old out : List ℕ) (n : ℕ) → out ≡ answered file old → n ≡ length file → take n out ≡ file
+unfolding answered
+answer-front file old out n e q = rw (e, q) (take-append-seam file (drop (length file) old))
+
+-- it is there, and has its length
+pub answer-count : (file old out : List ℕ) (n : ℕ) → out ≡ answered file old → n ≡ length file → (n ≤ length out) × (n ≡ length (take n out))
+unfolding answered
+answer-count file old out n e q =
+    let a = length-append file (drop (length file) old) in
+    let b = ap length e in
+    (omega arith, q ∙ sym (ap length (answer-front file old out n e q)))
+
 -- ---- puts at any place
 
 length-head : (d : List ℕ) (at : ℕ) (t : List ℕ) → at ≤ length d → length (take at d ++ t) ≡ at + length t

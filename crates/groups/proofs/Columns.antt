@@ -1,7 +1,7 @@
 -- The tables of a plan's sizes, filled read by read: what is written and what is left to write give the whole.
 -- Assumes nothing.
 use Prim.Native.Nat.{ℕ, _+_, _-_, _≤_, _<_}
-use mathlib.Core.Path.{_≡_, sym, ap, _∙_}
+use mathlib.Core.Path.{_≡_, sym, ap, subst, _∙_}
 use mathlib.Core.List.{List, [], _∷_, _++_, append-assoc, append-nil}
 use native.Mathlib.Numerals.{add-one}
 use native.Mathlib.Omega.{arith}
@@ -13,10 +13,12 @@ use Rattle.fields.specs.Places.{valueAt, placeAt, part, textPart}
 use Rattle.fields.specs.declared.Part.{Part}
 use Rattle.fields.proofs.Reading.{many-value-none, many-value-more}
 use Rattle.fields.proofs.Checks.{part-text}
-use Rattle.catalog.specs.Catalog.{Catalog}
+use Rattle.catalog.specs.Catalog.{Catalog, catalogOf}
+use Rattle.nodes.specs.Tabled.{catalogAt, Tabled}
+use Rattle.nodes.proofs.Tabling.{catalog-whole}
 use Rattle.sizes.specs.Told.{boundedSize}
 use Rattle.sizes.specs.declared.Size.{Size as Told}
-use Rattle.plans.specs.Plans.{read, readsOf}
+use Rattle.plans.specs.Plans.{Read, read, readsOf}
 use Rattle.plans.proofs.Access.{reads-are, read-name}
 use Rattle.plans.proofs.Round.{lawful-read}
 use Rattle.groups.specs.Told.{requestIn, replyIn, columnOf, Sized}
@@ -90,3 +92,7 @@ module _ (c : Catalog) (s : List ℕ) (n : ℕ) (e : (n ≡ length (readsOf s)) 
           requested = ap (λ x. take x requests) m ∙ column-end requestIn c s n requests at i (k .requested) h;
           replied = ap (λ x. take x replies) m ∙ column-end replyIn c s n replies at i (k .replied) h;
         }
+
+-- by tables of all tags and types of the catalog
+pub sized-whole : (s ts ps : List ℕ) (rs : List Read) (requests replies : List ℕ) (n : ℕ) → Tabled s ts ps → Sized (catalogAt s ts ps) rs requests replies n → Sized (catalogOf s) rs requests replies n
+sized-whole s ts ps rs requests replies n t z = subst (λ c. Sized c rs requests replies n) (catalog-whole s ts ps t) z

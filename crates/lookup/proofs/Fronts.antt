@@ -29,23 +29,23 @@ use Rattle.names.proofs.Spelling.{LaterToken, firstToken, reads-names}
 use Rattle.names.proofs.Growing.{spelled-more}
 use Rattle.names.proofs.Pathing.{namesIn, namesOf, names-append, index-names, path-parts, path-program}
 use Rattle.catalog.specs.Catalog.{node}
-use Rattle.catalog.specs.Alike.{typesStart, memberPlaces}
+use Rattle.catalog.specs.Alike.{typePlaces, memberPlaces}
 use Rattle.nodes.specs.Placed.{tagPlace}
 use Rattle.nodes.proofs.Inside.{Below, node-inside}
 use Rattle.lookup.specs.Info.{prefixLength}
-use Rattle.lookup.specs.Placed.{typePlaceIn, memberPlaceOf, memberPlaceIn, memberPlace, membersPlace, pathPlace, infoPlace}
+use Rattle.lookup.specs.Placed.{typePlaceIn, memberPlaceOf, memberPlaceIn, membersPlaceIn, pathPlaceIn, infoPlaceIn, memberPlace, membersPlace, pathPlace, infoPlace}
 
 -- ---- a name as a path, whatever tag has the whole name
 unfoldable pub asPath : List ℕ → Text → Option ℕ
 asPath s t = pathPlace s (take (prefixLength t) t) (parts (eqb 46) (stripped (drop (prefixLength t) t)))
 
 pub tag-or-path : (s : List ℕ) (t : Text) → infoPlace s t ≡ orElse (tagPlace s t) (asPath s t)
-unfolding infoPlace asPath
+unfolding infoPlaceIn asPath
 tag-or-path s t = refl
 
 -- ---- one name of a path after the other
 members-append : (s : List ℕ) (p : ℕ) (as′ bs : List Text) → membersPlace s p (as′ ++ bs) ≡ andThen (membersPlace s p as′) (λ q. membersPlace s q bs)
-unfolding membersPlace andThen
+unfolding membersPlaceIn andThen
 members-append s p [] bs = refl
 members-append s p (a ∷ r) bs =
     then-same (memberPlace s p a) (λ q. membersPlace s q (r ++ bs)) (λ q. andThen (membersPlace s q r) (λ m. membersPlace s m bs)) (λ q. members-append s q r bs)
@@ -60,7 +60,7 @@ module _ (s : List ℕ) (h q : Text) (ts : List Token) (p : Part h) (n : isName 
       rw (path-program h q ts p n l, le-leb (length h) (length (h ++ (q ++ spelling ts))) (omega arith))
 
   path-names : asPath s (h ++ (q ++ spelling ts)) ≡ andThen (tagPlace s (h ++ q)) (λ m. membersPlace s m (namesOf ts))
-  unfolding asPath pathPlace
+  unfolding asPath pathPlaceIn
   path-names = rw (prefix-is, take-append-seam h (q ++ spelling ts), drop-append-seam h (q ++ spelling ts), path-parts q ts n l)
 
 -- one token
@@ -69,7 +69,7 @@ none-later [] t u e = refl
 none-later (x ∷ ts) t u e = let z = ap length e in absurd (omega arith)
 
 pub path-first : (s t : List ℕ) (u : Token) → readName t ≡ tokens (u ∷ []) → asPath s t ≡ tagPlace s t
-unfolding namesOf membersPlace spelling joined
+unfolding namesOf membersPlaceIn spelling joined
 path-first s t u e =
     let n = reads-names t (u ∷ []) e in
     let b = tagPlace s (n .part ++ n .name) in
@@ -103,7 +103,7 @@ path-more s t us p k e l =
 module _ (s t : List ℕ) (us : List Token) (p : Text) (k : Key) (e : readName t ≡ tokens us) (r : laterToken p ≡ reads k) where
   -- none: it is a dot and a name
   pub path-name : length (indexesIn k) ≡ 0 → asPath s (t ++ p) ≡ andThen (asPath s t) (λ q. memberPlace s q (drop 1 p))
-  unfolding namesIn membersPlace
+  unfolding namesIn membersPlaceIn
   path-name z = path-more s t us p k e (later p k r) ∙ go (form-of p k r)
     where
       go : Form p k → andThen (asPath s t) (λ q. membersPlace s q (namesIn k)) ≡ andThen (asPath s t) (λ q. memberPlace s q (drop 1 p))
@@ -115,7 +115,7 @@ module _ (s t : List ℕ) (us : List Token) (p : Text) (k : Key) (e : readName t
 
   -- some: it is a bracket
   pub path-bracket : (length (indexesIn k) ≡ 0 → ⊥) → asPath s (t ++ p) ≡ asPath s t
-  unfolding membersPlace indexesIn
+  unfolding membersPlaceIn indexesIn
   path-bracket z = path-more s t us p k e (later p k r) ∙ go (form-of p k r)
     where
       go : Form p k → andThen (asPath s t) (λ q. membersPlace s q (namesIn k)) ≡ asPath s t
@@ -130,5 +130,5 @@ module _ (s : List ℕ) (a : Text) (h : 0 < length a) where
   from-inside (some p) f k = k p
 
   pub member-inside : (p : ℕ) → Below (length s) (memberPlace s p a)
-  unfolding memberPlace memberPlaceIn memberPlaceOf
-  member-inside p = from-inside (typePlaceIn s (typesStart s) (valueAt node s p .typeName)) (memberPlaceOf s a) (λ q. node-inside s a h (memberPlaces s q))
+  unfolding memberPlaceIn memberPlaceOf
+  member-inside p = from-inside (typePlaceIn s (typePlaces s) (valueAt node s p .typeName)) (memberPlaceOf s a) (λ q. node-inside s a h (memberPlaces s q))

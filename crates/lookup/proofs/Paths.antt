@@ -14,11 +14,11 @@ use Rattle.fields.specs.Places.{scan, part}
 use Rattle.fields.proofs.Lists.{drop-next, drop-past}
 use Rattle.names.specs.Pieces.{parts, isNot}
 use Rattle.names.proofs.Indexing.{part-at, laterParts}
-use Rattle.nodes.specs.Placed.{foundTold, tagPlace}
+use Rattle.nodes.specs.Placed.{foundTold, nodePlace}
 use Rattle.nodes.specs.declared.Found.{Found}
 use Rattle.nodes.specs.declared.Found.the-variants.{At, Nowhere}
 use Rattle.lookup.specs.Told.{partsBehind}
-use Rattle.lookup.specs.Placed.{memberPlace, membersPlace, pathPlace, plainPlace, membersFrom}
+use Rattle.lookup.specs.Placed.{memberPlaceIn, membersPlaceIn, pathPlaceIn, plainPlace, membersFrom}
 use Rattle.lookup.proofs.Types.{onward-found, onward-missing}
 
 -- ---- the members that a path names
@@ -35,36 +35,36 @@ pub part-within : (t : Text) (at e : ℕ) → at ≤ length t → e ≡ scan (is
 part-within t at e h q = let k = part-at 46 t at e h q in (k .within, k .ends)
 
 -- where nothing is left, the node itself
-pub members-end : (s t : List ℕ) (e p : ℕ) (all : Option ℕ) → length t ≤ e → membersFrom s p t e ≡ all → At p ≡ foundTold all
-unfolding membersFrom partsBehind membersPlace foundTold
-members-end s t e p all h i = ap foundTold (rw (drop-past t e h) at i)
+pub members-end : (s ps t : List ℕ) (e p : ℕ) (all : Option ℕ) → length t ≤ e → membersFrom s ps p t e ≡ all → At p ≡ foundTold all
+unfolding membersFrom partsBehind membersPlaceIn foundTold
+members-end s ps t e p all h i = ap foundTold (rw (drop-past t e h) at i)
 
-module _ (s t : List ℕ) (e p : ℕ) (all : Option ℕ) (h : e < length t) (i : membersFrom s p t e ≡ all) (end : ℕ) (q : end ≡ scan (isNot 46) (drop (e + 1) t) (e + 1)) (f : Found)
-    (g : f ≡ foundTold (memberPlace s p (part (e + 1) end t))) where
-  members-are : membersFrom s p t e ≡ andThen (memberPlace s p (part (e + 1) end t)) (λ m. membersFrom s m t end)
-  unfolding membersFrom partsBehind membersPlace
-  members-are = ap (λ l. membersPlace s p (partsBehind l)) (drop-next t e h) ∙ ap (membersPlace s p) (parts-are t (e + 1) end (omega arith) q)
+module _ (s ps t : List ℕ) (e p : ℕ) (all : Option ℕ) (h : e < length t) (i : membersFrom s ps p t e ≡ all) (end : ℕ) (q : end ≡ scan (isNot 46) (drop (e + 1) t) (e + 1)) (f : Found)
+    (g : f ≡ foundTold (memberPlaceIn s ps p (part (e + 1) end t))) where
+  members-are : membersFrom s ps p t e ≡ andThen (memberPlaceIn s ps p (part (e + 1) end t)) (λ m. membersFrom s ps m t end)
+  unfolding membersFrom partsBehind membersPlaceIn
+  members-are = ap (λ l. membersPlaceIn s ps p (partsBehind l)) (drop-next t e h) ∙ ap (membersPlaceIn s ps p) (parts-are t (e + 1) end (omega arith) q)
 
-  pub members-next : (r : ℕ) → f ≡ At r → membersFrom s r t end ≡ all
-  members-next r k = sym (members-are ∙ onward-found (memberPlace s p (part (e + 1) end t)) (λ m. membersFrom s m t end) f g r k) ∙ i
+  pub members-next : (r : ℕ) → f ≡ At r → membersFrom s ps r t end ≡ all
+  members-next r k = sym (members-are ∙ onward-found (memberPlaceIn s ps p (part (e + 1) end t)) (λ m. membersFrom s ps m t end) f g r k) ∙ i
 
   pub members-missing : f ≡ Nowhere → Nowhere ≡ foundTold all
   unfolding foundTold
-  members-missing k = ap foundTold (sym (members-are ∙ onward-missing (memberPlace s p (part (e + 1) end t)) (λ m. membersFrom s m t end) f g k) ∙ i)
+  members-missing k = ap foundTold (sym (members-are ∙ onward-missing (memberPlaceIn s ps p (part (e + 1) end t)) (λ m. membersFrom s ps m t end) f g k) ∙ i)
 
 -- ---- the tag that a path starts with
-module _ (s t : List ℕ) (h e : ℕ) (l : h ≤ length t) (q : e ≡ scan (isNot 46) (drop h t) h) (f : Found) (g : f ≡ foundTold (tagPlace s (take e t))) where
-  plain-is : plainPlace s t h ≡ andThen (tagPlace s (take e t)) (λ p. membersFrom s p t e)
-  unfolding plainPlace pathPlace membersFrom
+module _ (s ts ps t : List ℕ) (h e : ℕ) (l : h ≤ length t) (q : e ≡ scan (isNot 46) (drop h t) h) (f : Found) (g : f ≡ foundTold (nodePlace s (take e t) ts)) where
+  plain-is : plainPlace s ts ps t h ≡ andThen (nodePlace s (take e t) ts) (λ p. membersFrom s ps p t e)
+  unfolding plainPlace pathPlaceIn membersFrom
   plain-is =
       let w = part-within t h e l q in
       let k : h + (e - h) ≡ e = omega arith in
       let j : take h t ++ part h e t ≡ take e t = sym (take-add h (e - h) t) ∙ ap (λ n. take n t) k in
-      ap (pathPlace s (take h t)) (parts-are t h e l q) ∙ ap (λ x. andThen (tagPlace s x) (λ p. membersPlace s p (partsBehind (drop e t)))) j
+      ap (pathPlaceIn s ts ps (take h t)) (parts-are t h e l q) ∙ ap (λ x. andThen (nodePlace s x ts) (λ p. membersPlaceIn s ps p (partsBehind (drop e t)))) j
 
-  pub path-found : (p : ℕ) (r : Found) → f ≡ At p → r ≡ foundTold (membersFrom s p t e) → r ≡ foundTold (plainPlace s t h)
-  path-found p r k m = m ∙ sym (ap foundTold (plain-is ∙ onward-found (tagPlace s (take e t)) (λ n. membersFrom s n t e) f g p k))
+  pub path-found : (p : ℕ) (r : Found) → f ≡ At p → r ≡ foundTold (membersFrom s ps p t e) → r ≡ foundTold (plainPlace s ts ps t h)
+  path-found p r k m = m ∙ sym (ap foundTold (plain-is ∙ onward-found (nodePlace s (take e t) ts) (λ n. membersFrom s ps n t e) f g p k))
 
-  pub path-missing : f ≡ Nowhere → Nowhere ≡ foundTold (plainPlace s t h)
+  pub path-missing : f ≡ Nowhere → Nowhere ≡ foundTold (plainPlace s ts ps t h)
   unfolding foundTold
-  path-missing k = sym (ap foundTold (plain-is ∙ onward-missing (tagPlace s (take e t)) (λ n. membersFrom s n t e) f g k))
+  path-missing k = sym (ap foundTold (plain-is ∙ onward-missing (nodePlace s (take e t) ts) (λ n. membersFrom s ps n t e) f g k))

@@ -19,18 +19,20 @@ use Rattle.fields.specs.declared.Refusal.{Refusal}
 use Rattle.fields.specs.declared.Written.{Written}
 use Rattle.fields.specs.declared.Written.the-variants.{Done, Refused}
 use Rattle.fields.proofs.Lists.{cond-elim}
+use Rattle.fields.proofs.Patches.{answer-front}
 use Rattle.fields.proofs.Filling.{Filling, filling-start, filling-next, filling-end}
 use Rattle.names.specs.Pieces.{parts}
 use Rattle.names.specs.Name.{inProgram, isUndotted, programLength}
 use Rattle.names.specs.Strip.{skipping, isKept, stripFrom, stripped}
 use Rattle.names.specs.Listing.{longestName}
-use Rattle.nodes.specs.Placed.{foundTold, tagPlace}
+use Rattle.nodes.specs.Placed.{foundTold, nodePlace}
+use Rattle.nodes.specs.Tabled.{Tabled}
 use Rattle.nodes.specs.declared.Found.{Found}
 use Rattle.nodes.specs.declared.Found.the-variants.{At, Nowhere}
 use Rattle.nodes.proofs.Finds.{exact-found, exact-missing}
 use Rattle.lookup.specs.Info.{prefixLength}
 use Rattle.lookup.specs.Told.{plainName}
-use Rattle.lookup.specs.Placed.{pathPlace, infoPlace, lookedPlace, plainPlace}
+use Rattle.lookup.specs.Placed.{plainPlace, pathPlaceIn, infoPlaceIn, lookedPlaceIn, lookedPlace}
 
 -- ---- where a scan ends
 scan-passes : (f : ℕ → Bool) (s : Text) (i k : ℕ) → i + length s ≤ scan f s i → k < length s → f (getD s k 0) ≡ true
@@ -193,39 +195,38 @@ module _ (s p zeros : List ℕ) (h : ℕ) (e : p ≡ drop h s) (l : h ≤ length
       (omega arith, k .1, o ∙ filling-end file old (patch out₁ h (stripped p)) (h + length (stripped p)) a₂ ∙ ap (λ v. answered v old) (sym i))
 
 -- ---- the whole name
-pub too-long : (s name : List ℕ) → longestName < length name → Nowhere ≡ foundTold (lookedPlace s name)
-unfolding lookedPlace foundTold
-too-long s name h = rw (lt-ltb longestName (length name) h)
+pub too-long : (s ts ps name : List ℕ) → longestName < length name → Nowhere ≡ foundTold (lookedPlaceIn s ts ps name)
+unfolding lookedPlaceIn foundTold
+too-long s ts ps name h = rw (lt-ltb longestName (length name) h)
 
--- what was written is the front of the buffer
-pub spelled-part : (t old out : List ℕ) (n : ℕ) → n ≡ length t → out ≡ answered t old → take n out ≡ t
-unfolding answered
-spelled-part t old out n e a = ap (take n) a ∙ take-at t (drop (length t) old) n (sym e)
-
--- it is at least as long as the program part
+-- what was written is at least as long as the program part
 pub spelled-within : (name old out : List ℕ) (h n : ℕ) → n ≡ length (plainName name h) → out ≡ answered (plainName name h) old → h ≤ length name → h ≤ length (take n out)
 unfolding plainName
 spelled-within name old out h n e a l =
     let b = length-append (take h name) (stripped (drop h name)) in
     let d = length-take-le h name l in
-    let t = ap length (spelled-part (take h name ++ stripped (drop h name)) old out n e a) in omega arith
+    let t = ap length (answer-front (take h name ++ stripped (drop h name)) old out n a e) in omega arith
 
-module _ (s name : List ℕ) (f : Found) (g : f ≡ foundTold (tagPlace s name)) (h : length name ≤ longestName) where
+module _ (s ts ps name : List ℕ) (f : Found) (g : f ≡ foundTold (nodePlace s name ts)) (h : length name ≤ longestName) where
   abbrev path : Option ℕ
-  path = pathPlace s (take (prefixLength name) name) (parts (eqb 46) (stripped (drop (prefixLength name) name)))
+  path = pathPlaceIn s ts ps (take (prefixLength name) name) (parts (eqb 46) (stripped (drop (prefixLength name) name)))
 
-  looked : lookedPlace s name ≡ orElse (tagPlace s name) path
-  unfolding lookedPlace infoPlace
+  looked : lookedPlaceIn s ts ps name ≡ orElse (nodePlace s name ts) path
+  unfolding lookedPlaceIn infoPlaceIn
   looked = rw (le-ltb longestName (length name) h)
 
-  pub info-tag : (p : ℕ) → f ≡ At p → At p ≡ foundTold (lookedPlace s name)
-  info-tag p e = exact-found (tagPlace s name) path f g p e ∙ sym (ap foundTold looked)
+  pub info-tag : (p : ℕ) → f ≡ At p → At p ≡ foundTold (lookedPlaceIn s ts ps name)
+  info-tag p e = exact-found (nodePlace s name ts) path f g p e ∙ sym (ap foundTold looked)
 
-  pub info-path : (k : ℕ) (t : Text) (r : Found) → f ≡ Nowhere → k ≡ prefixLength name → k ≤ length name → t ≡ plainName name k → r ≡ foundTold (plainPlace s t k) → r ≡ foundTold (lookedPlace s name)
+  pub info-path : (k : ℕ) (t : Text) (r : Found) → f ≡ Nowhere → k ≡ prefixLength name → k ≤ length name → t ≡ plainName name k → r ≡ foundTold (plainPlace s ts ps t k) → r ≡ foundTold (lookedPlaceIn s ts ps name)
   unfolding plainPlace plainName
   info-path k t r e q l u m =
       let n : length (take k name) ≡ k = length-take-le k name l in
       let a : take k t ≡ take k name = ap (take k) u ∙ take-at (take k name) (stripped (drop k name)) k n in
       let b : drop k t ≡ stripped (drop k name) = ap (drop k) u ∙ drop-at (take k name) (stripped (drop k name)) k n in
-      let c : pathPlace s (take k t) (parts (eqb 46) (drop k t)) ≡ path = ap₂ (λ x y. pathPlace s x (parts (eqb 46) y)) a b ∙ ap (λ j. pathPlace s (take j name) (parts (eqb 46) (stripped (drop j name)))) q in
-      exact-missing (tagPlace s name) path f g r e (m ∙ ap foundTold c) ∙ sym (ap foundTold looked)
+      let c : pathPlaceIn s ts ps (take k t) (parts (eqb 46) (drop k t)) ≡ path = ap₂ (λ x y. pathPlaceIn s ts ps x (parts (eqb 46) y)) a b ∙ ap (λ j. pathPlaceIn s ts ps (take j name) (parts (eqb 46) (stripped (drop j name)))) q in
+      exact-missing (nodePlace s name ts) path f g r e (m ∙ ap foundTold c) ∙ sym (ap foundTold looked)
+
+-- ---- by all tags and types of the file
+pub looked-whole : (s ts ps name : List ℕ) (r : Found) → Tabled s ts ps → r ≡ foundTold (lookedPlaceIn s ts ps name) → r ≡ foundTold (lookedPlace s name)
+looked-whole s ts ps name r t h = h ∙ ap₂ (λ x y. foundTold (lookedPlaceIn s x y name)) (t .tags-stand) (t .types-stand)

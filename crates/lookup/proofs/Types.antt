@@ -10,14 +10,13 @@ use Rattle.fields.specs.Text.{Text}
 use Rattle.fields.specs.Fields.{number}
 use Rattle.fields.specs.Places.{valueAt, placeAt, placesFrom}
 use Rattle.fields.proofs.Reading.{number-place}
-use Rattle.catalog.specs.Catalog.{node, typeDef, counts}
-use Rattle.catalog.specs.Finding.{find}
-use Rattle.catalog.specs.Alike.{typesStart, membersCount, memberPlaces}
-use Rattle.nodes.specs.Placed.{foundTold, isNamedAt, nodePlace}
+use Rattle.catalog.specs.Catalog.{node}
+use Rattle.catalog.specs.Alike.{membersCount, memberPlaces}
+use Rattle.nodes.specs.Placed.{foundTold, nodePlace}
 use Rattle.nodes.specs.declared.Found.{Found}
 use Rattle.nodes.specs.declared.Found.the-variants.{At, Nowhere}
 use Rattle.nodes.proofs.Finds.{told-at, told-nowhere}
-use Rattle.lookup.specs.Placed.{typePlaceIn, typePlace, memberPlaceOf, memberPlaceIn, memberPlace}
+use Rattle.lookup.specs.Placed.{typePlaceIn, memberPlaceOf, memberPlaceIn}
 
 -- ---- from a place that may be missing, `f`, on
 module _ (x : Option ℕ) (g : ℕ → Option ℕ) (f : Found) (e : f ≡ foundTold x) where
@@ -28,20 +27,6 @@ module _ (x : Option ℕ) (g : ℕ → Option ℕ) (f : Found) (e : f ≡ foundT
   pub onward-missing : f ≡ Nowhere → andThen x g ≡ none
   unfolding andThen
   onward-missing q = ap (λ y. andThen y g) (told-nowhere x (sym e ∙ q))
-
--- ---- the types from a place on
-pub types-counted : (s : List ℕ) (w : Text) (from n : ℕ) → n ≡ valueAt counts s 1 .1 → find (isNamedAt s w) (placesFrom typeDef n s from) ≡ typePlaceIn s from w
-unfolding typePlaceIn
-types-counted s w from n e = ap (λ x. find (isNamedAt s w) (placesFrom typeDef x s from)) e
-
--- ---- where the types start, the searches are those of the file
-module _ (s : List ℕ) (from : ℕ) (e : from ≡ typesStart s) where
-  pub member-place-in : (p : ℕ) (a : Text) → memberPlaceIn s from p a ≡ memberPlace s p a
-  unfolding memberPlace
-  member-place-in p a = ap (λ i. memberPlaceIn s i p a) e
-
-  pub member-told : (p : ℕ) (a : Text) (f : Found) → f ≡ foundTold (memberPlaceIn s from p a) → f ≡ foundTold (memberPlace s p a)
-  member-told p a f g = g ∙ ap foundTold (member-place-in p a)
 
 -- ---- the members of a type
 pub member-found : (s : List ℕ) (w : Text) (at c p n : ℕ) (r : Found) → c ≡ membersCount s at → p ≡ c + length (take 2 (drop c s)) → n ≡ valueAt (number 2 256) s c
@@ -54,7 +39,7 @@ member-found s w at c p n r e g h q =
     (g ∙ sym (number-place s c 256 2) ∙ ap (placeAt (number 2 256) s) e)
 
 -- ---- the type of a node
-module _ (s : List ℕ) (types at : ℕ) (w t : Text) (e : t ≡ valueAt node s at .typeName) (f : Found) (g : f ≡ foundTold (typePlaceIn s types t)) where
+module _ (s types : List ℕ) (at : ℕ) (w t : Text) (e : t ≡ valueAt node s at .typeName) (f : Found) (g : f ≡ foundTold (typePlaceIn s types t)) where
   step-is : memberPlaceIn s types at w ≡ andThen (typePlaceIn s types t) (memberPlaceOf s w)
   unfolding memberPlaceIn
   step-is = ap (λ y. andThen (typePlaceIn s types y) (memberPlaceOf s w)) (sym e)

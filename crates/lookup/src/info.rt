@@ -6,18 +6,18 @@ use names::strip::strip;
 use names::token::place_of;
 use names::walk::program_end;
 use nodes::Found;
-use nodes::find::find_tag;
-use nodes::place::types_start;
+use nodes::find::find_node_in;
+use nodes::table::tag_places;
+use nodes::table::type_places;
 ghost use mathlib.Core.Path.{_≡_};
 ghost use Prim.Native.Nat.{_≤_};
 ghost use lib.ListN.{length};
 ghost use Rattle.fields.specs.Writing.{answered};
 ghost use Rattle.names.specs.Listing.{longestName};
-ghost use Rattle.catalog.specs.Alike.{typesStart};
 ghost use Rattle.nodes.specs.Placed.{foundTold};
 ghost use Rattle.lookup.specs.Info.{prefixLength};
 ghost use Rattle.lookup.specs.Told.{plainName};
-ghost use Rattle.lookup.specs.Placed.{lookedPlace, plainPlace, membersFrom};
+ghost use Rattle.lookup.specs.Placed.{membersFrom, plainPlace, lookedPlaceIn, lookedPlace};
 
 // How many bytes the program part has, 0 where no dot ends it.
 fn prefix_end(name: &[u8]) -> usize
@@ -54,10 +54,9 @@ fn spell(name: &[u8], h: usize, out: &mut [u8]) -> usize
     }
 }
 
-// The members of a node that a path names, of which a part ends at the place from. The types of the file start at a place.
-fn members_of(s: &[u8], types: usize, t: &[u8], from: usize, tag: usize) -> Found
-    requires { ⌜ types ≡ typesStart (now s) ⌝ }
-    ensures { λ r. ⌜ r ≡ foundTold (membersFrom (now (s .entry)) tag (now (t .entry)) from) ⌝ }
+// The members of a node that a path names, of which a part ends at the place from. The types stand at these places.
+fn members_of(s: &[u8], types: &[usize], t: &[u8], from: usize, tag: usize) -> Found
+    ensures { λ r. ⌜ r ≡ foundTold (membersFrom (now (s .entry)) (now (types .entry)) tag (now (t .entry)) from) ⌝ }
 {
     let mut e = from;
     let mut p = tag;
@@ -79,38 +78,44 @@ fn members_of(s: &[u8], types: usize, t: &[u8], from: usize, tag: usize) -> Foun
 }
 
 // The node of a name without brackets, of which the program part has h bytes.
-fn node_of_path(s: &[u8], t: &[u8], h: usize) -> Found
+fn node_of_path(s: &[u8], tags: &[usize], types: &[usize], t: &[u8], h: usize) -> Found
     requires { ⌜ h ≤ length (now t) ⌝ }
-    ensures { λ r. ⌜ r ≡ foundTold (plainPlace (now (s .entry)) (now (t .entry)) h) ⌝ }
+    ensures { λ r. ⌜ r ≡ foundTold (plainPlace (now (s .entry)) (now (tags .entry)) (now (types .entry)) (now (t .entry)) h) ⌝ }
 {
     let e = place_of(t, h, b'.');
-    let found = find_tag(s, &t[..e]);
+    let found = find_node_in(s, tags, &t[..e]);
     match found {
         Found::Nowhere => Found::Nowhere,
-        Found::At(p) => {
-            if t.len() <= e {
-                return Found::At(p);
-            }
-            members_of(s, types_start(s), t, e, p)
-        }
+        Found::At(p) => members_of(s, types, t, e, p),
     }
 }
 
-// The node of a full name: as a tag first, else through members.
-pub fn info(s: &[u8], name: &[u8]) -> Found
-    ensures { λ r. ⌜ r ≡ foundTold (lookedPlace (now (s .entry)) (now (name .entry))) ⌝ }
+// The node of a full name, of the tags and types at these places: as a tag first, else through members.
+pub fn info_in(s: &[u8], tags: &[usize], types: &[usize], name: &[u8]) -> Found
+    ensures { λ r. ⌜ r ≡ foundTold (lookedPlaceIn (now (s .entry)) (now (tags .entry)) (now (types .entry)) (now (name .entry))) ⌝ }
 {
     if 136 < name.len() {
         return Found::Nowhere;
     }
-    let tag = find_tag(s, name);
+    let tag = find_node_in(s, tags, name);
     match tag {
         Found::At(p) => Found::At(p),
         Found::Nowhere => {
             let mut plain = [0; 136];
             let h = prefix_end(name);
             let n = spell(name, h, &mut plain);
-            node_of_path(s, &plain[..n], h)
+            node_of_path(s, tags, types, &plain[..n], h)
         }
     }
+}
+
+// The node of a full name, of all tags and types of the file.
+pub fn info(s: &[u8], name: &[u8]) -> Found
+    ensures { λ r. ⌜ r ≡ foundTold (lookedPlace (now (s .entry)) (now (name .entry))) ⌝ }
+{
+    let mut tags = [0; 1024];
+    let mut types = [0; 128];
+    let n = tag_places(s, &mut tags);
+    let k = type_places(s, &mut types);
+    info_in(s, &tags[..n], &types[..k], name)
 }

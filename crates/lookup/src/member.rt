@@ -7,24 +7,21 @@ use nodes::find::find_node;
 use nodes::find::is_named;
 use nodes::place::member_count;
 use nodes::place::members_count_place;
-use nodes::place::type_count;
-use nodes::place::type_past;
 ghost use mathlib.Core.Path.{_≡_};
 ghost use Rattle.nodes.specs.Placed.{foundTold};
 ghost use Rattle.lookup.specs.Placed.{typePlaceIn, memberPlaceOf, memberPlaceIn};
 
-// The type of a name, of the types that stand from a place on.
-pub fn find_type(s: &[u8], types: usize, name: &[u8]) -> Found
-    ensures { λ r. ⌜ r ≡ foundTold (typePlaceIn (now (s .entry)) types (now (name .entry))) ⌝ }
+// The type of a name, of the types at these places.
+fn find_type(s: &[u8], types: &[usize], name: &[u8]) -> Found
+    ensures { λ r. ⌜ r ≡ foundTold (typePlaceIn (now (s .entry)) (now (types .entry)) (now (name .entry))) ⌝ }
 {
-    let mut at = types;
-    let mut k = type_count(s);
-    while 0 < k {
+    let mut i = 0;
+    while i < types.len() {
+        let at = types[i];
         if is_named(s, at, name) {
             return Found::At(at);
         }
-        at = type_past(s, at);
-        k -= 1;
+        i += 1;
     }
     Found::Nowhere
 }
@@ -37,9 +34,9 @@ fn find_member(s: &[u8], at: usize, name: &[u8]) -> Found
     find_node(s, past(s, count, 2), member_count(s, count), name)
 }
 
-// The member of the node at a place, by the node's type, of the types that stand from another place on.
-pub fn member_of(s: &[u8], types: usize, at: usize, name: &[u8]) -> Found
-    ensures { λ r. ⌜ r ≡ foundTold (memberPlaceIn (now (s .entry)) types at (now (name .entry))) ⌝ }
+// The member of the node at a place, by the node's type, of the types at these places.
+pub fn member_of(s: &[u8], types: &[usize], at: usize, name: &[u8]) -> Found
+    ensures { λ r. ⌜ r ≡ foundTold (memberPlaceIn (now (s .entry)) (now (types .entry)) at (now (name .entry))) ⌝ }
 {
     let of = text_at(s, text_past(s, at));
     let start = of.start;

@@ -2,22 +2,22 @@
 -- The laws of the loop hold for any test of a place; then come the test by name, exact spelling first, and the tags of a file.
 -- Last, what stands at the place found is what the catalog has by that name.
 -- Assumes nothing.
-use Prim.Native.Nat.{ℕ, zero, suc, _-_, _≤_, _<_}
+use Prim.Native.Nat.{ℕ}
 use mathlib.Core.Path.{_≡_, refl, sym, ap, ap₂, _∙_}
 use mathlib.Core.Bool.{Bool, true, false, cond}
-use mathlib.Core.List.{List}
+use mathlib.Core.List.{List, [], _∷_, map}
 use mathlib.Core.Option.{Option, none, some, Option·map}
 use native.Mathlib.Omega.{arith}
 use lib.ListN.{drop}
 use Rattle.fields.specs.Options.{orElse}
-use Rattle.fields.proofs.Rows.{places-none, places-more}
 use Rattle.fields.specs.Text.{Text, same, alike}
 use Rattle.fields.specs.Format.{Format, _then_, mapped, many}
 use Rattle.fields.specs.Fields.{textOf}
 use Rattle.fields.specs.Files.{fileOf}
 use Rattle.fields.specs.Places.{valueAt, placeAt, part, placesFrom}
-use Rattle.fields.proofs.Lawful.{Lawful, lawful-many}
-use Rattle.fields.proofs.Reading.{then-value, leading-value, mapped-value, many-value-none, many-value-more, text-value}
+use Rattle.fields.proofs.Lawful.{lawful-many}
+use Rattle.fields.proofs.Columns.{values-mapped}
+use Rattle.fields.proofs.Reading.{then-value, leading-value, mapped-value, text-value}
 use Rattle.catalog.specs.Catalog.{Node, TypeDef, name, fromKind, nodeFields, node, typeDef, counts, countsOf, tagsAndTypes, catalog, catalogOf}
 use Rattle.catalog.specs.Finding.{find}
 use Rattle.catalog.specs.Alike.{nameAt, tagPlaces}
@@ -28,23 +28,23 @@ use Rattle.nodes.specs.Placed.{foundTold, isNamedAt, isCalledAt, nodePla
 use Rattle.nodes.specs.declared.Found.{Found}
 use Rattle.nodes.specs.declared.Found.the-variants.{At, Nowhere}
 
--- ---- searching the places of so many fields in a row, for any test `t` of which the code's answer at the place `at` is `r`
-module _ {A : Type 0} (f : Format A) (t : ℕ → Bool) (s : List ℕ) (at k : ℕ) (all : Option ℕ) (i : find t (placesFrom f k s at) ≡ all) where
-  pub search-none : k ≤ 0 → Nowhere ≡ foundTold all
+-- ---- searching places, of which `ps` are left, for any test `t` of which the code's answer at the next place `at` is `r`
+module _ (t : ℕ → Bool) (ps : List ℕ) (all : Option ℕ) (i : find t ps ≡ all) where
+  pub search-none : ps ≡ [] → Nowhere ≡ foundTold all
   unfolding find foundTold
-  search-none h = ap foundTold (rw (places-none f s k at h) at i)
+  search-none h = ap foundTold (rw h at i)
 
-  module _ (r : Bool) (h : 0 < k) (e : r ≡ t at) where
-    next-is : cond r (some at) (find t (placesFrom f (k - 1) s (placeAt f s at))) ≡ all
+  module _ (at : ℕ) (qs : List ℕ) (h : ps ≡ at ∷ qs) (r : Bool) (e : r ≡ t at) where
+    next-is : cond r (some at) (find t qs) ≡ all
     unfolding find
-    next-is = rw e (rw (places-more f s k at h) at i)
+    next-is = rw e (rw h at i)
 
     pub search-here : r ≡ true → At at ≡ foundTold all
     unfolding foundTold
     search-here y = ap foundTold (rw y at next-is)
 
-    pub search-later : (q : ℕ) → r ≡ false → q ≡ placeAt f s at → find t (placesFrom f (k - 1) s q) ≡ all
-    search-later q y p = rw p (rw y at next-is)
+    pub search-later : r ≡ false → find t qs ≡ all
+    search-later y = rw y at next-is
 
 -- ---- what a place told was
 pub told-at : (x : Option ℕ) (p : ℕ) → foundTold x ≡ At p → x ≡ some p
@@ -81,7 +81,7 @@ module _ (x y : Option ℕ) (r : Found) (h : r ≡ foundTold x) where
 -- ---- the tags of a file
 pub tag-found : (s : List ℕ) (w : Text) (p n : ℕ) (r : Found) → p ≡ placeAt counts s 1 → n ≡ valueAt counts s 1 .0 → r ≡ foundTold (nodePlace s w (placesFrom node n s p))
     → r ≡ foundTold (tagPlace s w)
-unfolding tagPlace tagPlaces
+unfolding tagPlaces
 tag-found s w p n r e g h = h ∙ ap₂ (λ x y. foundTold (nodePlace s w (placesFrom node x s y))) g e
 
 pub tags-are : (s : List ℕ) → catalogOf s .tags ≡ valueAt (many node (valueAt counts s 1 .0)) s (placeAt counts s 1)
@@ -91,18 +91,20 @@ tags-are s =
     ∙ ap (λ (x : List Node × List TypeDef). x .0)
     (then-value (many node (valueAt counts s 1 .0)) (many typeDef (valueAt counts s 1 .1)) s (placeAt counts s 1) (lawful-many node lawful-node (valueAt counts s 1 .0)))
 
+pub tags-mapped : (s : List ℕ) → map (valueAt node s) (tagPlaces s) ≡ catalogOf s .tags
+unfolding tagPlaces
+tags-mapped s = sym (tags-are s ∙ values-mapped node s lawful-node (valueAt counts s 1 .0) (placeAt counts s 1))
+
 -- ---- what stands at the place found
 -- the first place that passes has the first value that passes, where the tests of places and of values agree
-module _ {A : Type 0} (f : Format A) (F : Lawful f) (t : A → Bool) (u : ℕ → Bool) (s : List ℕ) (h : (x : ℕ) → u x ≡ t (valueAt f s x)) where
-  pub found-value : (n i : ℕ) → Option·map (valueAt f s) (find u (placesFrom f n s i)) ≡ find t (valueAt (many f n) s i)
-  unfolding find placesFrom
-  found-value zero i = rw (many-value-none f s i 0 (omega arith))
-  found-value (suc n) i =
-      let z : suc n - 1 ≡ n = omega arith in
-      rw (many-value-more f s i (suc n) F (omega arith), z, ← h i) (go (u i) (found-value n (placeAt f s i)))
+module _ {A : Type 0} (f : Format A) (t : A → Bool) (u : ℕ → Bool) (s : List ℕ) (h : (x : ℕ) → u x ≡ t (valueAt f s x)) where
+  pub found-value : (ps : List ℕ) → Option·map (valueAt f s) (find u ps) ≡ find t (map (valueAt f s) ps)
+  unfolding find
+  found-value [] = refl
+  found-value (i ∷ ps) = rw (← h i) (go (u i) (found-value ps))
     where
-      go : (b : Bool) → Option·map (valueAt f s) (find u (placesFrom f n s (placeAt f s i))) ≡ find t (valueAt (many f n) s (placeAt f s i))
-          → Option·map (valueAt f s) (cond b (some i) (find u (placesFrom f n s (placeAt f s i)))) ≡ cond b (some (valueAt f s i)) (find t (valueAt (many f n) s (placeAt f s i)))
+      go : (b : Bool) → Option·map (valueAt f s) (find u ps) ≡ find t (map (valueAt f s) ps)
+          → Option·map (valueAt f s) (cond b (some i) (find u ps)) ≡ cond b (some (valueAt f s i)) (find t (map (valueAt f s) ps))
       go true e = refl
       go false e = e
 
@@ -130,14 +132,14 @@ module _ (s : List ℕ) where
   unfolding isCalledAt isCalled
   called w at = ap (λ x. alike x w) (node-name at)
 
-  pub node-is : (w : Text) (n i : ℕ) → foundIn s (foundTold (nodePlace s w (placesFrom node n s i))) ≡ nodeNamed w (valueAt (many node n) s i)
+  pub node-is : (w : Text) (ps : List ℕ) → foundIn s (foundTold (nodePlace s w ps)) ≡ nodeNamed w (map (valueAt node s) ps)
   unfolding nodePlace nodeNamed
-  node-is w n i =
-      either-is (find (isNamedAt s w) (placesFrom node n s i)) (find (isCalledAt s w) (placesFrom node n s i))
+  node-is w ps =
+      either-is (find (isNamedAt s w) ps) (find (isCalledAt s w) ps)
       ∙ ap₂ orElse
-      (node-told (find (isNamedAt s w) (placesFrom node n s i)) ∙ found-value node lawful-node (isNamed w) (isNamedAt s w) s (named w) n i)
-      (node-told (find (isCalledAt s w) (placesFrom node n s i)) ∙ found-value node lawful-node (isCalled w) (isCalledAt s w) s (called w) n i)
+      (node-told (find (isNamedAt s w) ps) ∙ found-value node (isNamed w) (isNamedAt s w) s (named w) ps)
+      (node-told (find (isCalledAt s w) ps) ∙ found-value node (isCalled w) (isCalledAt s w) s (called w) ps)
 
   pub tag-is : (w : Text) → foundIn s (foundTold (tagPlace s w)) ≡ tagOf (catalogOf s) w
-  unfolding tagPlace tagPlaces tagOf
-  tag-is w = node-is w (valueAt counts s 1 .0) (placeAt counts s 1) ∙ ap (nodeNamed w) (sym (tags-are s))
+  unfolding tagOf
+  tag-is w = node-is w (tagPlaces s) ∙ ap (nodeNamed w) (tags-mapped s)

@@ -65,5 +65,4 @@ module _ (s : List ℕ) (t : Text) (h : 0 < length t) where
       (below-find (length s) (isNamedAt s t) named-inside ps) (below-find (length s) (isCalledAt s t) called-inside ps)
 
   pub tag-inside : Below (length s) (tagPlace s t)
-  unfolding tagPlace
   tag-inside = node-inside (tagPlaces s)

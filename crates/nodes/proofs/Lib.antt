@@ -5,3 +5,4 @@ pub mod Passes
 pub mod Standing
 pub mod Accepting
 pub mod Inside
+pub mod Tabling

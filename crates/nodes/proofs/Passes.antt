@@ -1,15 +1,15 @@
 -- Exact spelling first, then case ignored, in one pass: the first place of just this name ends the search, and the first of the name with
 -- case ignored is kept meanwhile. What is left of the places, with what is kept, gives what the two searches of all of them give.
 -- Assumes nothing.
-use Prim.Native.Nat.{ℕ, _-_, _≤_, _<_}
+use Prim.Native.Nat.{ℕ, _-_, _<_}
 use mathlib.Core.Path.{_≡_, refl, sym, ap, _∙_}
 use mathlib.Core.Bool.{Bool, true, false, cond, true≢false}
-use mathlib.Core.List.{List}
+use mathlib.Core.List.{List, [], _∷_}
 use mathlib.Core.Option.{Option, none, some}
 use Rattle.fields.specs.Options.{orElse}
 use Rattle.fields.specs.Text.{Text, lowered}
 use Rattle.fields.specs.Places.{placeAt, placesFrom}
-use Rattle.fields.proofs.Rows.{places-none, places-more}
+use Rattle.fields.proofs.Rows.{places-more}
 use Rattle.fields.proofs.Texts.{same-is, is-alike}
 use Rattle.catalog.specs.Catalog.{node}
 use Rattle.catalog.specs.Finding.{find}
@@ -57,37 +57,40 @@ named-called s w p e = split (isNamedAt s w p) refl
     split true h = absurd (true≢false (sym (is-alike (nameAt s p) w (ap lowered (same-is (nameAt s p) w h))) ∙ e))
     split false h = refl
 
--- `k` nodes are left at `at`, and `kept` is the first place passed of the name with case ignored
-abbrev pub passed : List ℕ → Text → ℕ → ℕ → Found → Option ℕ
-passed s w at k kept = orElse (find (isNamedAt s w) (placesFrom node k s at)) (orElse (placeTold kept) (find (isCalledAt s w) (placesFrom node k s at)))
+-- `ps` are the places left, and `kept` is the first place passed of the name with case ignored
+abbrev pub passed : List ℕ → Text → List ℕ → Found → Option ℕ
+passed s w ps kept = orElse (find (isNamedAt s w) ps) (orElse (placeTold kept) (find (isCalledAt s w) ps))
 
-pub pass-start : (s : List ℕ) (w : Text) (from n : ℕ) → passed s w from n Nowhere ≡ nodePlace s w (placesFrom node n s from)
+pub pass-start : (s : List ℕ) (w : Text) (ps : List ℕ) → passed s w ps Nowhere ≡ nodePlace s w ps
 unfolding nodePlace placeTold orElse
-pass-start s w from n = refl
+pass-start s w ps = refl
 
-module _ (s : List ℕ) (w : Text) (at k : ℕ) (kept : Found) (all : Option ℕ) (i : passed s w at k kept ≡ all) where
-  pub pass-end : k ≤ 0 → kept ≡ foundTold all
+module _ (s : List ℕ) (w : Text) (ps : List ℕ) (kept : Found) (all : Option ℕ) (i : passed s w ps kept ≡ all) where
+  pub pass-end : ps ≡ [] → kept ≡ foundTold all
   unfolding find orElse
   pass-end h =
-      let e : orElse (placeTold kept) none ≡ all = rw (places-none node s k at h) at i in
+      let e : orElse (placeTold kept) none ≡ all = rw h at i in
       sym (told-again kept) ∙ ap foundTold (sym (or-none (placeTold kept)) ∙ e)
 
-  module _ (h : 0 < k) where
+  -- the next place is `at`, and `qs` are behind it
+  module _ (at : ℕ) (qs : List ℕ) (h : ps ≡ at ∷ qs) where
     next-is : (n c : Bool) → isNamedAt s w at ≡ n → isCalledAt s w at ≡ c
-        → orElse (cond n (some at) (find (isNamedAt s w) (placesFrom node (k - 1) s (placeAt node s at))))
-        (orElse (placeTold kept) (cond c (some at) (find (isCalledAt s w) (placesFrom node (k - 1) s (placeAt node s at)))))
-        ≡ all
+        → orElse (cond n (some at) (find (isNamedAt s w) qs)) (orElse (placeTold kept) (cond c (some at) (find (isCalledAt s w) qs))) ≡ all
     unfolding find
-    next-is n c e g = rw (← e, ← g) (rw (places-more node s k at h) at i)
+    next-is n c e g = rw (← e, ← g) (rw h at i)
 
     pub pass-named : isNamedAt s w at ≡ true → At at ≡ foundTold all
     unfolding orElse foundTold
     pass-named e = ap foundTold (next-is true (isCalledAt s w at) e refl)
 
-    pub pass-called : (q : ℕ) (r : Found) → isCalledAt s w at ≡ true → isNamedAt s w at ≡ false → r ≡ foundTold (orElse (placeTold kept) (some at)) → q ≡ placeAt node s at → passed s w q (k - 1) r ≡ all
-    pass-called q r c n e g =
+    pub pass-called : (r : Found) → isCalledAt s w at ≡ true → isNamedAt s w at ≡ false → r ≡ foundTold (orElse (placeTold kept) (some at)) → passed s w qs r ≡ all
+    pass-called r c n e =
         let t : placeTold r ≡ orElse (placeTold kept) (some at) = ap placeTold e ∙ told-place (orElse (placeTold kept) (some at)) in
-        rw (g, t, or-some (placeTold kept) (find (isCalledAt s w) (placesFrom node (k - 1) s (placeAt node s at))) at) (next-is false true n c)
+        rw (t, or-some (placeTold kept) (find (isCalledAt s w) qs) at) (next-is false true n c)
 
-    pub pass-other : (q : ℕ) (r : Found) → isCalledAt s w at ≡ false → r ≡ kept → q ≡ placeAt node s at → passed s w q (k - 1) r ≡ all
-    pass-other q r c e g = rw (g, e) (next-is false false (named-called s w at c) c)
+    pub pass-other : (r : Found) → isCalledAt s w at ≡ false → r ≡ kept → passed s w qs r ≡ all
+    pass-other r c e = rw e (next-is false false (named-called s w at c) c)
+
+-- ---- the places left where nodes are walked over, `k` of them at `at`
+pub walk-next : (s : List ℕ) (at k q : ℕ) → 0 < k → q ≡ placeAt node s at → placesFrom node k s at ≡ at ∷ placesFrom node (k - 1) s q
+walk-next s at k q h e = places-more node s k at h ∙ ap (λ x. at ∷ placesFrom node (k - 1) s x) (sym e)

@@ -1,3 +1,4 @@
 pub mod Reading
 pub mod Lookup
 pub mod Placed
+pub mod Tabled

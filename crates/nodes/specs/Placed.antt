@@ -34,5 +34,5 @@ unfoldable pub nodePlace : List ℕ → Text → List ℕ → Option ℕ
 nodePlace s t ps = orElse (find (isNamedAt s t) ps) (find (isCalledAt s t) ps)
 
 -- where the tag of a name stands
-unfoldable pub tagPlace : List ℕ → Text → Option ℕ
+abbrev pub tagPlace : List ℕ → Text → Option ℕ
 tagPlace s t = nodePlace s t (tagPlaces s)

@@ -65,6 +65,25 @@ pub fn find_node(s: &[u8], from: usize, n: usize, name: &[u8]) -> Found
     called
 }
 
+// The node of a name among those at these places: exact spelling first, then case ignored.
+pub fn find_node_in(s: &[u8], places: &[usize], name: &[u8]) -> Found
+    ensures { λ r. ⌜ r ≡ foundTold (nodePlace (now (s .entry)) (now (name .entry)) (now (places .entry))) ⌝ }
+{
+    let mut i = 0;
+    let mut called = Found::Nowhere;
+    while i < places.len() {
+        let p = places[i];
+        if is_called(s, p, name) {
+            if is_named(s, p, name) {
+                return Found::At(p);
+            }
+            called = either(called, p);
+        }
+        i += 1;
+    }
+    called
+}
+
 // The tag of a name.
 pub fn find_tag(s: &[u8], name: &[u8]) -> Found
     ensures { λ r. ⌜ r ≡ foundTold (tagPlace (now (s .entry)) (now (name .entry))) ⌝ }

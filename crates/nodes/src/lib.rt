@@ -5,6 +5,7 @@ use fields::Part;
 
 pub mod find;
 pub mod place;
+pub mod table;
 pub mod value;
 
 // A number that may be missing.

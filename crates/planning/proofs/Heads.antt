@@ -19,7 +19,8 @@ use Rattle.plans.specs.Access.{readHead, memberBytes}
 use Rattle.plans.proofs.Writes.{length-head, length-member}
 use Rattle.planning.specs.Choosing.{runName}
 use Rattle.planning.specs.Put.{textThere, pathBytes, indexPath, Walkable, underBytes, elementBytes, rowBytes, underIn, elementIn, UnderFit, ElementFit, startIn, spanIn, plainBytes, structBytes, runBytes, StructFit, RunFit}
-use Rattle.planning.proofs.Putting.{answer-front, put-behind, room-behind}
+use Rattle.fields.proofs.Patches.{answer-front}
+use Rattle.planning.proofs.Putting.{put-behind, room-behind}
 
 -- ---- names that stand in the list file
 module _ (list : List ℕ) (place : ℕ) (t : Part) (e : t ≡ textPart list place) where

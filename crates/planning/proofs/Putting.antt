@@ -21,19 +21,6 @@ filling-put file old out out′ to to′ t rest f e g =
 pub filling-all : (file old out : List ℕ) (to : ℕ) → Filling file old out to [] → (to ≡ length file) × (out ≡ answered file old)
 filling-all file old out to f = let m = filling-room file old out to [] f in (omega arith, filling-end file old out to f)
 
--- the front of an answer
-pub answer-front : (file old out : List ℕ) (n : ℕ) → out ≡ answered file old → n ≡ length file → take n out ≡ file
-unfolding answered
-answer-front file old out n e q = rw (e, q) (take-append-seam file (drop (length file) old))
-
--- it is there, and has its length
-pub answer-count : (file old out : List ℕ) (n : ℕ) → out ≡ answered file old → n ≡ length file → (n ≤ length out) × (n ≡ length (take n out))
-unfolding answered
-answer-count file old out n e q =
-    let a = length-append file (drop (length file) old) in
-    let b = ap length e in
-    (omega arith, q ∙ sym (ap length (answer-front file old out n e q)))
-
 -- an answer that fills its buffer
 pub answer-whole : (file old out : List ℕ) → length file ≡ length old → out ≡ answered file old → out ≡ file
 unfolding answered

@@ -11,6 +11,8 @@ use lists::read::whole_max;
 use names::Step;
 use names::walk::first_token;
 use names::walk::next_token;
+use nodes::table::tag_places;
+use nodes::table::type_places;
 use pending::Reads;
 use pending::columns;
 use sizes::request::request_size;
@@ -19,6 +21,7 @@ ghost use Prim.Native.Nat.{_≤_, _<_};
 ghost use lib.ListN.{length};
 ghost use Rattle.names.specs.Name.{tokensOf};
 ghost use Rattle.names.specs.Told.{Based};
+ghost use Rattle.nodes.specs.Tabled.{Tabled};
 ghost use Rattle.planning.specs.Tables.{lensIn, kindsIn, requestsIn, repliesIn};
 ghost use Rattle.planning.specs.Merges.{AskTold};
 ghost use Rattle.planning.specs.Choosing.{NamesKept};
@@ -62,7 +65,33 @@ fn tokens_from(name: &[u8], base: usize) -> u8
     }
 }
 
-// The requests of the groups: a struct's, or its array's.
+// The requests of the groups, a struct's or its array's, of the catalog's tags and types at these places.
+fn put_asks(
+    catalog: &[u8],
+    bases: &[usize],
+    types: &[usize],
+    list: &[u8],
+    places: &[usize; 256],
+    spellers: &[u8; 8448],
+    spans: &[u8; 8448],
+    groups: usize,
+    asks: &mut [u16; 8448],
+)
+    requires { ⌜ (groups ≤ 8448) × Tabled (now catalog) (now bases) (now types) ⌝ }
+    ensures { λ r. ⌜ AskTold (now (catalog .entry)) (now (list .entry)) (now (places .entry)) (now (spellers .entry)) (now (spans .entry)) groups (now (asks .exit)) ⌝ }
+{
+    let to = &mut asks[..];
+    let mut j = 0;
+    while j < groups {
+        let t = name_of(list, places, spellers, spans, j);
+        let a = t.start;
+        let b = t.end;
+        to[j] = request_size(catalog, bases, types, &list[a..b]) as u16;
+        j += 1;
+    }
+}
+
+// The requests of the groups.
 pub(crate) fn fill_asks(
     catalog: &[u8],
     list: &[u8],
@@ -75,15 +104,21 @@ pub(crate) fn fill_asks(
     requires { ⌜ groups ≤ 8448 ⌝ }
     ensures { λ r. ⌜ AskTold (now (catalog .entry)) (now (list .entry)) (now (places .entry)) (now (spellers .entry)) (now (spans .entry)) groups (now (asks .exit)) ⌝ }
 {
-    let to = &mut asks[..];
-    let mut j = 0;
-    while j < groups {
-        let t = name_of(list, places, spellers, spans, j);
-        let a = t.start;
-        let b = t.end;
-        to[j] = request_size(catalog, &list[a..b]) as u16;
-        j += 1;
-    }
+    let mut bases = [0; 1024];
+    let mut types = [0; 128];
+    let n = tag_places(catalog, &mut bases);
+    let k = type_places(catalog, &mut types);
+    put_asks(
+        catalog,
+        &bases[..n],
+        &types[..k],
+        list,
+        places,
+        spellers,
+        spans,
+        groups,
+        asks,
+    );
 }
 
 // Whether one of the tags that a struct serves, from a place up to another, is that struct itself: its name ends where the struct's does.

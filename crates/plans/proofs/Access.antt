@@ -14,7 +14,7 @@ use Rattle.fields.specs.Places.{valueAt, placeAt}
 use Rattle.fields.proofs.Reading.{then-value, leading-value, mapped-value, number-value, indexed-text-value}
 use Rattle.fields.proofs.Rows.{values-from, values-length}
 use Rattle.plans.specs.Plans.{Step, Read, steps, member, members, read, readsOf}
-use Rattle.plans.specs.Access.{readPlaces, readHead, memberBytes}
+use Rattle.plans.specs.Access.{readHead, memberBytes}
 use Rattle.plans.proofs.Round.{lawful-read, lawful-name}
 use Rattle.plans.proofs.Steps.{lawful-count}
 

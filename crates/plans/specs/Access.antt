@@ -8,10 +8,6 @@ use Rattle.fields.specs.Fields.{number, digits}
 use Rattle.fields.specs.Places.{valueAt, placeAt, placesFrom}
 use Rattle.plans.specs.Plans.{read}
 
--- where the reads stand
-unfoldable pub readPlaces : List ℕ → List ℕ
-readPlaces s = placesFrom read (valueAt (number 2 256) s 1) s (placeAt (number 2 256) s 1)
-
 -- the bytes of a read before its members: its name and how many there are
 unfoldable pub readHead : Text → ℕ → List ℕ
 readHead t n = (length t ∷ t) ++ digits 2 n

@@ -30,7 +30,7 @@ use Rattle.catalog.specs.Catalog.{catalogOf}
 use Rattle.nodes.specs.Reading.{foundIn, nodeRead}
 use Rattle.nodes.specs.Placed.{foundTold}
 use Rattle.nodes.proofs.Values.{read-node}
-use Rattle.lookup.specs.Placed.{infoPlace, lookedPlace}
+use Rattle.lookup.specs.Placed.{lookedPlaceIn, infoPlace, lookedPlace}
 use Rattle.nodes.specs.declared.Node.{Node as Read}
 use Rattle.nodes.specs.declared.Found.{Found as Place}
 use Rattle.nodes.specs.declared.Found.the-variants.{At, Nowhere}
@@ -163,7 +163,7 @@ module _ (c n : List ℕ) (o : Option ℕ) (m : Option Node) (i : foundIn c (fou
 
 -- a name that is not too long is looked up
 pub looked-up : (c n : List ℕ) (q p : ℕ) (f : Place) → told (queryVerdict c n) q ≡ Good p → f ≡ foundTold (lookedPlace c n) → f ≡ foundTold (infoPlace c n)
-unfolding lookedPlace
+unfolding lookedPlaceIn
 looked-up c n q p f e g = g ∙ rw (le-ltb longestName (length n) (name-short c n q p e))
 
 -- ---- the size of a read

@@ -20,7 +20,9 @@ use Rattle.names.specs.Listing.{longestName}
 use Rattle.names.specs.Told.{rangeTold}
 use Rattle.names.specs.declared.Ranged.the-variants.{Of, Plain}
 use Rattle.names.proofs.Listings.{range-within}
-use Rattle.catalog.specs.Catalog.{Node, Catalog}
+use Rattle.catalog.specs.Catalog.{Node, Catalog, catalogOf}
+use Rattle.nodes.specs.Tabled.{catalogAt, Tabled}
+use Rattle.nodes.proofs.Tabling.{catalog-whole}
 use Rattle.lookup.specs.Info.{lookedUp}
 use Rattle.sizes.specs.Sizes.{replySize, rangeReply, rangeSize, sizeFrom, readSize}
 use Rattle.sizes.specs.Told.{boundedRequest, largestCount, overCount, unreadable, sizeTold, noSize, boundedRange, boundedSize}
@@ -99,3 +101,11 @@ module _ (c : Catalog) (s : Text) where
     pub read-range : (i n : ℕ) (r : Told) → rangeTold (rangeOf s) ≡ Of i n → r ≡ boundedRange c (take i s) n → r ≡ boundedSize c s
     unfolding boundedSize boundedRange unreadable overCount readSize sizeFrom
     read-range i n r e g = rw (le-ltb longestName (length s) h, range-is s i n e) g
+
+-- ---- by tables of all tags and types of a file
+module _ (s ts ps name : List ℕ) (t : Tabled s ts ps) where
+  pub request-whole : (n : ℕ) → n ≡ boundedRequest (catalogAt s ts ps) name → n ≡ boundedRequest (catalogOf s) name
+  request-whole n h = h ∙ ap (λ c. boundedRequest c name) (catalog-whole s ts ps t)
+
+  pub read-whole : (z : Told) → z ≡ boundedSize (catalogAt s ts ps) name → z ≡ boundedSize (catalogOf s) name
+  read-whole z h = h ∙ ap (λ c. boundedSize c name) (catalog-whole s ts ps t)

@@ -8,11 +8,13 @@ use fields::check::text_past;
 use fields::text::equal;
 use lookup::Bytes;
 use lookup::atomic::atomic_size;
-use lookup::info::info;
+use lookup::info::info_in;
 use names::Ranged;
 use names::range::range;
 use nodes::Found;
 use nodes::Maybe;
+use nodes::table::tag_places;
+use nodes::table::type_places;
 use nodes::value::node_at;
 ghost use mathlib.Core.Path.{_≡_};
 ghost use Prim.Native.Nat.{_≤_};
@@ -25,6 +27,7 @@ ghost use Rattle.catalog.specs.Finding.{any};
 ghost use Rattle.lookup.specs.Atomic.{atomicSize};
 ghost use Rattle.lookup.specs.Told.{bytesTold};
 ghost use Rattle.nodes.specs.Reading.{maybeOf, foundIn};
+ghost use Rattle.nodes.specs.Tabled.{catalogAt};
 ghost use Rattle.sizes.specs.Sizes.{orValue, overheadOf, valueSize, replySize, isBits, elementsSize, rangeReply, bitTypes, isLine, runSize, elementSize};
 ghost use Rattle.sizes.specs.Told.{largestCount, boundedRange, boundedSize};
 
@@ -147,9 +150,9 @@ fn range_reply(s: &[u8], found: Found, count: u64) -> u64
 }
 
 // The sizes of a read of so many elements of an array.
-fn range_size(s: &[u8], array: &[u8], count: u64) -> Size
+fn range_size(s: &[u8], tags: &[usize], types: &[usize], array: &[u8], count: u64) -> Size
     requires { ⌜ length (now array) ≤ longestName ⌝ }
-    ensures { λ r. ⌜ r ≡ boundedRange (catalogOf (now (s .entry))) (now (array .entry)) count ⌝ }
+    ensures { λ r. ⌜ r ≡ boundedRange (catalogAt (now (s .entry)) (now (tags .entry)) (now (types .entry))) (now (array .entry)) count ⌝ }
 {
     if 1000001 < count {
         return Size {
@@ -157,14 +160,14 @@ fn range_size(s: &[u8], array: &[u8], count: u64) -> Size
             reply: 0,
         };
     }
-    let request = request_size(s, array);
-    let reply = range_reply(s, info(s, array), count);
+    let request = request_size(s, tags, types, array);
+    let reply = range_reply(s, info_in(s, tags, types, array), count);
     Size { request, reply }
 }
 
-// The sizes of a read by its name: zeros for a name or a count over its limit.
-pub fn read_size(s: &[u8], name: &[u8]) -> Size
-    ensures { λ r. ⌜ r ≡ boundedSize (catalogOf (now (s .entry))) (now (name .entry)) ⌝ }
+// The sizes of a read by its name, of the tags and types at these places: zeros for a name or a count over its limit.
+pub fn read_size_in(s: &[u8], tags: &[usize], types: &[usize], name: &[u8]) -> Size
+    ensures { λ r. ⌜ r ≡ boundedSize (catalogAt (now (s .entry)) (now (tags .entry)) (now (types .entry))) (now (name .entry)) ⌝ }
 {
     if 136 < name.len() {
         return Size {
@@ -174,13 +177,24 @@ pub fn read_size(s: &[u8], name: &[u8]) -> Size
     }
     let g = range(name);
     match g {
-        Ranged::Of(i, count) => range_size(s, &name[..i], count),
+        Ranged::Of(i, count) => range_size(s, tags, types, &name[..i], count),
         Ranged::Plain => {
-            let request = request_size(s, name);
-            let reply = reply_size(s, info(s, name));
+            let request = request_size(s, tags, types, name);
+            let reply = reply_size(s, info_in(s, tags, types, name));
             Size { request, reply }
         }
     }
+}
+
+// The sizes of a read by its name, of all tags and types of the file.
+pub fn read_size(s: &[u8], name: &[u8]) -> Size
+    ensures { λ r. ⌜ r ≡ boundedSize (catalogOf (now (s .entry))) (now (name .entry)) ⌝ }
+{
+    let mut tags = [0; 1024];
+    let mut types = [0; 128];
+    let n = tag_places(s, &mut tags);
+    let k = type_places(s, &mut types);
+    read_size_in(s, &tags[..n], &types[..k], name)
 }
 
 // A type whose elements are bits, or are read as bits.

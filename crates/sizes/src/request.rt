@@ -3,7 +3,7 @@ use crate::Charge;
 use fields::Numeral;
 use fields::decimal::read_numeral;
 use fields::text::equal_ignoring_case;
-use lookup::info::info;
+use lookup::info::info_in;
 use names::Step;
 use names::token::place_of;
 use names::walk::first_token;
@@ -18,8 +18,8 @@ ghost use Rattle.names.specs.Name.{laterToken, indexesOf};
 ghost use Rattle.names.specs.Steps.{readFrom};
 ghost use Rattle.names.specs.Told.{listedIndexes, Based};
 ghost use Rattle.names.specs.Listing.{longestName};
-ghost use Rattle.catalog.specs.Catalog.{catalogOf};
 ghost use Rattle.nodes.specs.Reading.{maybeOf, foundIn};
+ghost use Rattle.nodes.specs.Tabled.{catalogAt};
 ghost use Rattle.sizes.specs.Sizes.{paddedTo, indexSize, indexSizes, idSize, idOf, programSize};
 ghost use Rattle.sizes.specs.Told.{chargeTold, bytesIn, pieceCost, TokenText, requestTold, boundedRequest};
 
@@ -149,24 +149,24 @@ fn later_size(name: &[u8], base: usize) -> Charge
 }
 
 // The request of a name whose first token ends at base, or that of a name without tokens.
-fn tokens_request(s: &[u8], name: &[u8], base: usize) -> Charge
+fn tokens_request(s: &[u8], tags: &[usize], types: &[usize], name: &[u8], base: usize) -> Charge
     requires { ⌜ Based (now name) base ⌝ }
-    ensures { λ r. ⌜ (r ≡ requestTold (catalogOf (now (s .entry))) (now (name .entry))) × (bytesIn r ≤ 1000) ⌝ }
+    ensures { λ r. ⌜ (r ≡ requestTold (catalogAt (now (s .entry)) (now (tags .entry)) (now (types .entry))) (now (name .entry))) × (bytesIn r ≤ 1000) ⌝ }
 {
     let later = later_size(name, base);
     match later {
         Charge::Unreadable => Charge::Unreadable,
         Charge::Bytes(n) => {
-            let id = base_size(s, info(s, &name[..base]));
+            let id = base_size(s, info_in(s, tags, types, &name[..base]));
             let program = program_size(&name[..base]);
             Charge::Bytes(8 + id + program + n)
         }
     }
 }
 
-// The size of a request by the name that is read.
-pub fn request_size(s: &[u8], name: &[u8]) -> u64
-    ensures { λ r. ⌜ (r ≡ boundedRequest (catalogOf (now (s .entry))) (now (name .entry))) × (r ≤ 1000) ⌝ }
+// The size of a request by the name that is read, of the tags and types at these places.
+pub fn request_size(s: &[u8], tags: &[usize], types: &[usize], name: &[u8]) -> u64
+    ensures { λ r. ⌜ (r ≡ boundedRequest (catalogAt (now (s .entry)) (now (tags .entry)) (now (types .entry))) (now (name .entry))) × (r ≤ 1000) ⌝ }
 {
     if 136 < name.len() {
         return 0;
@@ -175,7 +175,7 @@ pub fn request_size(s: &[u8], name: &[u8]) -> u64
     let first = first_token(name);
     match first {
         Step::Token(base, _) => {
-            let cost = tokens_request(s, name, base);
+            let cost = tokens_request(s, tags, types, name, base);
             match cost {
                 Charge::Bytes(n) => n,
                 Charge::Unreadable => plain,

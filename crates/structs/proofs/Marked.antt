@@ -1,7 +1,7 @@
 -- The size of the first type of a name is known where its mark is 1, and the marks are those of the types that read whole.
 -- What the code reads at places is what the catalog has.
 -- Assumes nothing.
-use Prim.Native.Nat.{ℕ, suc, _+_, _-_, _≤_, _<_}
+use Prim.Native.Nat.{ℕ, suc, _+_, _≤_}
 use mathlib.Core.Path.{_≡_, refl, sym, ap, _∙_}
 use mathlib.Core.Bool.{Bool, true, false, cond}
 use mathlib.Core.List.{List, [], _∷_, _++_, map}
@@ -12,22 +12,23 @@ use lib.Dec.{eqb}
 use borrow.Author.Tests.{eq-eqb, ne-eqb}
 use Rattle.fields.specs.Options.{andThen}
 use Rattle.fields.specs.Text.{Text, same}
-use Rattle.fields.specs.Format.{_then_, many}
+use Rattle.fields.specs.Format.{_then_}
 use Rattle.fields.specs.Fields.{number, whole, limited, textOf, textPast}
 use Rattle.fields.specs.Places.{valueAt, placeAt, part}
 use Rattle.fields.specs.Writing.{answered}
-use Rattle.fields.proofs.Reading.{then-value, mapped-value, many-value-none, many-value-more, number-value}
-use Rattle.catalog.specs.Catalog.{Node, TypeDef, Catalog, name, node, fromAoi, typeFields, typeDef, counts, catalogOf}
+use Rattle.fields.proofs.Reading.{then-value, mapped-value, number-value}
+use Rattle.catalog.specs.Catalog.{Node, TypeDef, Catalog, name, node, fromAoi, typeFields, typeDef, catalogOf}
 use Rattle.catalog.specs.Finding.{find, isStruct, isTyped, typeNamed}
-use Rattle.catalog.specs.Alike.{nameAt, typesStart}
+use Rattle.catalog.specs.Alike.{nameAt, typePlaces}
 use Rattle.catalog.specs.Nesting.{readsWhole}
-use Rattle.catalog.proofs.Round.{lawful-name, lawful-type-size, lawful-type}
+use Rattle.catalog.proofs.Round.{lawful-name, lawful-type-size}
 use Rattle.nesting.specs.Graph.{mark, marked}
 use Rattle.nodes.specs.Reading.{foundIn}
 use Rattle.nodes.specs.declared.Found.{Found}
 use Rattle.nodes.specs.declared.Found.the-variants.{At, Nowhere}
 use Rattle.nodes.proofs.Places.{name-past}
-use Rattle.nodes.proofs.Standing.{types-are, typed, struct-at, type-name-at}
+use Rattle.nodes.proofs.Standing.{typed, struct-at, type-name-at}
+use Rattle.nodes.proofs.Tabling.{types-mapped}
 use Rattle.types.specs.Whole.{wholeMark, wholeOf, isMarkable, WholeTold}
 use Rattle.lookup.specs.Info.{wholeSize, structSize}
 use Rattle.lookup.specs.Told.{bytesTold}
@@ -78,20 +79,17 @@ type-size-at s at p n e h =
     ∙ ap (λ x. x .1 .0) (then-value name (number 2 65535 then fromAoi) s at lawful-name)
     ∙ ap (λ x. x .0) (then-value (number 2 65535) fromAoi s (placeAt name s at) lawful-type-size))
 
--- ---- the types of a file, front to back
--- what is left of the types gives what all of them give
-pub marked-start : (ms s : List ℕ) (w : Text) (from n : ℕ) → n ≡ valueAt counts s 1 .1 → markedFrom ms w (valueAt (many typeDef n) s from) 0 ≡ markedFrom ms w (typesIn s from) 0
-marked-start ms s w from n g = ap (λ x. markedFrom ms w (valueAt (many typeDef x) s from) 0) g
-
-module _ (ms s : List ℕ) (w : Text) (at n k : ℕ) (all : Option ℕ) (i : markedFrom ms w (valueAt (many typeDef n) s at) k ≡ all) where
-  pub marked-none : n ≤ 0 → Unknown ≡ bytesTold all
+-- ---- the types at places, front to back
+-- what is left of the types, at the places `ps`, gives what all of them give
+module _ (ms s : List ℕ) (w : Text) (ps : List ℕ) (k : ℕ) (all : Option ℕ) (i : markedFrom ms w (typesIn s ps) k ≡ all) where
+  pub marked-none : ps ≡ [] → Unknown ≡ bytesTold all
   unfolding markedFrom bytesTold
-  marked-none h = ap bytesTold (sym (ap (λ x. markedFrom ms w x k) (many-value-none typeDef s at n h)) ∙ i)
+  marked-none h = ap bytesTold (rw h at i)
 
-  module _ (r : Bool) (h : 0 < n) (e : r ≡ same (nameAt s at) w) where
-    first-is : cond r (cond (marked ms k) (some (valueAt typeDef s at .size)) none) (markedFrom ms w (valueAt (many typeDef (n - 1)) s (placeAt typeDef s at)) (suc k)) ≡ all
+  module _ (at : ℕ) (qs : List ℕ) (h : ps ≡ at ∷ qs) (r : Bool) (e : r ≡ same (nameAt s at) w) where
+    first-is : cond r (cond (marked ms k) (some (valueAt typeDef s at .size)) none) (markedFrom ms w (typesIn s qs) (suc k)) ≡ all
     unfolding markedFrom
-    first-is = rw (e, typed s at w) (sym (ap (λ x. markedFrom ms w x k) (many-value-more typeDef s at n lawful-type h)) ∙ i)
+    first-is = rw (e, typed s at w) (rw h at i)
 
     pub marked-here : (m : Bool) (z : ℕ) → r ≡ true → m ≡ marked ms k → m ≡ true → z ≡ valueAt typeDef s at .size → Known z ≡ bytesTold all
     unfolding bytesTold
@@ -101,16 +99,16 @@ module _ (ms s : List ℕ) (w : Text) (at n k : ℕ) (all : Option ℕ) (i : mar
     unfolding bytesTold
     marked-not m y f g = ap bytesTold (rw (y, ← f, g) at first-is)
 
-    pub marked-later : (q : ℕ) → r ≡ false → q ≡ placeAt typeDef s at → markedFrom ms w (valueAt (many typeDef (n - 1)) s q) (k + 1) ≡ all
-    marked-later q y p = rw (p, add-one k) (rw y at first-is)
+    pub marked-later : r ≡ false → markedFrom ms w (typesIn s qs) (k + 1) ≡ all
+    marked-later y = rw (add-one k) (rw y at first-is)
 
--- where the types start, they are those of the catalog
-pub marked-in : (ms s : List ℕ) (from : ℕ) (n : Node) → from ≡ typesStart s → markedIn s from ms n ≡ markedSize ms (catalogOf s) n
+-- at the places of all types they are those of the catalog
+pub marked-in : (ms s ps : List ℕ) (n : Node) → ps ≡ typePlaces s → markedIn s ps ms n ≡ markedSize ms (catalogOf s) n
 unfolding markedIn markedSize
-marked-in ms s from n e = ap (λ x. markedOf ms x n) (ap (typesIn s) e ∙ sym (types-are s))
+marked-in ms s ps n e = ap (λ x. markedOf ms x n) (ap (typesIn s) e ∙ types-mapped s)
 
 -- ---- a node at a place
-module _ (ms s : List ℕ) (types at p q n : ℕ) (e : p ≡ textPast (drop at s) at) (g : q ≡ textPast (drop p s) p) (h : n ≡ limited 2 (whole 1 (take 1 (drop q s)))) (l : n ≤ 2) where
+module _ (ms s types : List ℕ) (at p q n : ℕ) (e : p ≡ textPast (drop at s) at) (g : q ≡ textPast (drop p s) p) (h : n ≡ limited 2 (whole 1 (take 1 (drop q s)))) (l : n ≤ 2) where
   pub size-other : (n ≡ 1 → ⊥) → Unknown ≡ bytesTold (markedIn s types ms (valueAt node s at))
   unfolding markedOf markedIn bytesTold
   size-other x = rw (← struct-at s at p q e g n h l, ne-eqb n 1 x)
@@ -120,7 +118,7 @@ module _ (ms s : List ℕ) (types at p q n : ℕ) (e : p ≡ textPast (drop at s
   size-struct a b r x y z = rw (← struct-at s at p q e g n h l, eq-eqb n 1 x) (z ∙ ap (λ t. bytesTold (markedFrom ms t (typesIn s types) 0)) (type-name-at s at p a b e y))
 
 -- ---- a node that was found
-module _ (ms s : List ℕ) (types : ℕ) (found : Found) where
+module _ (ms s types : List ℕ) (found : Found) where
   pub size-nowhere : found ≡ Nowhere → Unknown ≡ bytesTold (andThen (foundIn s found) (markedIn s types ms))
   unfolding foundIn andThen bytesTold
   size-nowhere e = sym (ap (λ x. bytesTold (andThen (foundIn s x) (markedIn s types ms))) e)
@@ -134,7 +132,7 @@ module _ (s old ms : List ℕ) (o : Option Node) (t : Bool) (room : length old �
   told-is : isMarkable (catalogOf s) 128 ≡ t
   told-is = sym (W .is ∙ ap (isMarkable (catalogOf s)) room)
 
-  pub told-whole : (r : Bytes) (types : ℕ) → t ≡ true → types ≡ typesStart s → r ≡ bytesTold (andThen o (markedIn s types ms)) → r ≡ bytesTold (structTold (catalogOf s) o)
+  pub told-whole : (r : Bytes) (types : List ℕ) → t ≡ true → types ≡ typePlaces s → r ≡ bytesTold (andThen o (markedIn s types ms)) → r ≡ bytesTold (structTold (catalogOf s) o)
   unfolding structTold andThen
   told-whole r types y start h = rw (told-is, y) (h ∙ ap bytesTold (each o))
     where

@@ -2,13 +2,12 @@
 -- Assumes nothing: these are definitions.
 use Prim.Native.Nat.{ℕ, suc}
 use mathlib.Core.Bool.{cond}
-use mathlib.Core.List.{List, [], _∷_}
+use mathlib.Core.List.{List, [], _∷_, map}
 use mathlib.Core.Option.{Option, none, some}
 use Rattle.fields.specs.Options.{andThen}
 use Rattle.fields.specs.Text.{Text}
-use Rattle.fields.specs.Format.{many}
 use Rattle.fields.specs.Places.{valueAt}
-use Rattle.catalog.specs.Catalog.{Node, TypeDef, Catalog, typeDef, counts}
+use Rattle.catalog.specs.Catalog.{Node, TypeDef, Catalog, typeDef}
 use Rattle.catalog.specs.Finding.{isStruct, isTyped}
 use Rattle.nesting.specs.Graph.{marked}
 use Rattle.types.specs.Whole.{isMarkable}
@@ -23,13 +22,13 @@ markedFrom ms w (d ∷ ds) k = cond (isTyped w d) (cond (marked ms k) (some (d .
 unfoldable pub markedOf : List ℕ → List TypeDef → Node → Option ℕ
 markedOf ms ds n = cond (isStruct (n .kind)) (markedFrom ms (n .typeName) ds 0) none
 
--- the types of a file `s` from the place `from` on
-abbrev pub typesIn : List ℕ → ℕ → List TypeDef
-typesIn s from = valueAt (many typeDef (valueAt counts s 1 .1)) s from
+-- the types of a file `s` at the places `ps`
+abbrev pub typesIn : List ℕ → List ℕ → List TypeDef
+typesIn s ps = map (valueAt typeDef s) ps
 
--- the size of a node of a file `s`, by its types from the place `from` on
-unfoldable pub markedIn : List ℕ → ℕ → List ℕ → Node → Option ℕ
-markedIn s from ms n = markedOf ms (typesIn s from) n
+-- the size of a node of a file `s`, by its types at the places `ps`
+unfoldable pub markedIn : List ℕ → List ℕ → List ℕ → Node → Option ℕ
+markedIn s ps ms n = markedOf ms (typesIn s ps) n
 
 -- the size of a node of a catalog
 unfoldable pub markedSize : List ℕ → Catalog → Node → Option ℕ

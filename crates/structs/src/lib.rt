@@ -7,9 +7,7 @@ use lookup::Bytes;
 use nesting::graph::is_marked;
 use nodes::Found;
 use nodes::find::is_named;
-use nodes::place::type_count;
-use nodes::place::type_past;
-use nodes::place::types_start;
+use nodes::table::type_places;
 use types::whole_types;
 ghost use mathlib.Core.Path.{_≡_};
 ghost use Rattle.fields.specs.Options.{andThen};
@@ -28,30 +26,27 @@ fn type_size(s: &[u8], at: usize) -> u64
     n as u64
 }
 
-// The size of the first type of a name, if it is marked, of the types that stand from a place on.
-fn marked_type(s: &[u8], types: usize, marks: &[u8], name: &[u8]) -> Bytes
-    ensures { λ r. ⌜ r ≡ bytesTold (markedFrom (now (marks .entry)) (now (name .entry)) (typesIn (now (s .entry)) types) 0) ⌝ }
+// The size of the first type of a name, if it is marked, of the types at these places.
+fn marked_type(s: &[u8], types: &[usize], marks: &[u8], name: &[u8]) -> Bytes
+    ensures { λ r. ⌜ r ≡ bytesTold (markedFrom (now (marks .entry)) (now (name .entry)) (typesIn (now (s .entry)) (now (types .entry))) 0) ⌝ }
 {
-    let mut at = types;
-    let mut n = type_count(s);
     let mut k = 0;
-    while 0 < n {
+    while k < types.len() {
+        let at = types[k];
         if is_named(s, at, name) {
             if is_marked(marks, k) {
                 return Bytes::Known(type_size(s, at));
             }
             return Bytes::Unknown;
         }
-        at = type_past(s, at);
-        n -= 1;
         k += 1;
     }
     Bytes::Unknown
 }
 
 // The size of the node at a place, if it is a struct and its type is marked.
-fn node_size(s: &[u8], types: usize, marks: &[u8], at: usize) -> Bytes
-    ensures { λ r. ⌜ r ≡ bytesTold (markedIn (now (s .entry)) types (now (marks .entry)) (valueAt node (now (s .entry)) at)) ⌝ }
+fn node_size(s: &[u8], types: &[usize], marks: &[u8], at: usize) -> Bytes
+    ensures { λ r. ⌜ r ≡ bytesTold (markedIn (now (s .entry)) (now (types .entry)) (now (marks .entry)) (valueAt node (now (s .entry)) at)) ⌝ }
 {
     let of = text_past(s, at);
     let kind = text_past(s, of);
@@ -64,9 +59,9 @@ fn node_size(s: &[u8], types: usize, marks: &[u8], at: usize) -> Bytes
     marked_type(s, types, marks, &s[start..end])
 }
 
-// The size of a struct node that was found, if its type is marked, of the types that stand from a place on.
-pub fn struct_size(s: &[u8], types: usize, marks: &[u8], found: Found) -> Bytes
-    ensures { λ r. ⌜ r ≡ bytesTold (andThen (foundIn (now (s .entry)) found) (markedIn (now (s .entry)) types (now (marks .entry)))) ⌝ }
+// The size of a struct node that was found, if its type is marked, of the types at these places.
+pub fn struct_size(s: &[u8], types: &[usize], marks: &[u8], found: Found) -> Bytes
+    ensures { λ r. ⌜ r ≡ bytesTold (andThen (foundIn (now (s .entry)) found) (markedIn (now (s .entry)) (now (types .entry)) (now (marks .entry)))) ⌝ }
 {
     match found {
         Found::Nowhere => Bytes::Unknown,
@@ -80,7 +75,9 @@ pub fn whole_size(s: &[u8], found: Found) -> Bytes
 {
     let mut marks = [0; 128];
     if whole_types(s, &mut marks) {
-        return struct_size(s, types_start(s), &marks, found);
+        let mut types = [0; 128];
+        let n = type_places(s, &mut types);
+        return struct_size(s, &types[..n], &marks, found);
     }
     Bytes::Unknown
 }

@@ -157,6 +157,3 @@ module _ (s : List ℕ) (b : Bytes s) (e : fieldsVerdict s ≡ fine) where
 
   pub alike-apart : alikeWithin mostLevels s 1 ≡ fine → apart (valueOf s) ≡ true
   alike-apart d = sym alike-is ∙ ap isFine d
-
-  pub apart-alike : apart (valueOf s) ≡ true → alikeWithin mostLevels s 1 ≡ fine
-  apart-alike d = fine-is (alikeWithin mostLevels s 1) (alike-is ∙ d)

@@ -128,9 +128,6 @@ unfolding value
 lawful-value zero = lawful-deep
 lawful-value (suc m) = lawful-enclosed (content (value m)) (closing-content (value m) (lawful-value m))
 
-pub lawful-items : (m : ℕ) → Lawful (items (value m))
-lawful-items m = lawful-items-of (value m) (lawful-value m)
-
 pub lawful-members : (m : ℕ) → Lawful (members (value m))
 lawful-members m = lawful-members-of (value m) (lawful-value m)
 

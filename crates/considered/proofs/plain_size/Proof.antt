@@ -14,7 +14,7 @@ reply-size-requires : tie.Need-reply-size-requires
 reply-size-requires c κs = search needs
 
 returns : tie.Need-returns
-returns c = plain-is _ (c .before .before .before .before .before .args .name .now) _ (c .before .before .before .before .before .pre .0) _ _ _ (c .before .before .before .before .before .pre .1) (c .before .before .request-size .ensures .0) (c .before .found-at .ensures) (c .reply-size .ensures)
+returns c = plain-is _ (c .before .before .before .before .before .before .before .args .name .now) _ (c .before .before .before .before .before .before .before .pre .0) _ _ _ (c .before .before .before .before .before .before .before .pre .1) _ _ (c .before .before .before .before .before .before .before .pre .2) (c .before .before .request-size .ensures .0) (c .before .found-at .ensures) (c .reply-size .ensures)
 
 pub plain-size-spec : {M : Type 1} → statement M
 plain-size-spec =

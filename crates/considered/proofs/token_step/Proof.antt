@@ -20,7 +20,7 @@ returns-2 : tie.Need-returns-2
 returns-2 c = behind-nowhere _ _ _ _ (c .before .before .if1 .left) (c .enum-told .given .1)
 
 returns-3 : tie.Need-returns-3
-returns-3 c = behind-found _ _ _ _ _ _ _ (c .before .before .before .before .before .before .before .pre) (c .before .before .before .before .if1 .left) (c .before .before .node .given .1) (c .member-of .ensures)
+returns-3 c = behind-found _ _ _ _ _ _ _ (c .before .before .before .before .before .before .before .before .pre) (c .before .before .before .before .if1 .left) (c .before .before .node .given .1) (c .member-of .ensures)
 
 pub token-step-spec : {M : Type 1} → statement M
 token-step-spec =

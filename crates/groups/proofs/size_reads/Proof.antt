@@ -1,96 +1,52 @@
--- `size_reads` meets its contract: the sizes of the reads left fill up both tables.
-use Prim.Native.Nat.{_-_}
+-- `size_reads` meets its contract: the tables hold the places of all tags and of all types.
 use borrow.Author.Needs.{needs}
-use Rattle.catalog.specs.Catalog.{catalogOf}
-use Rattle.groups.proofs.Columns.{Sizing, sizing-start, sizing-next, sizing-end}
+use Rattle.fields.proofs.Patches.{answer-count}
+use Rattle.nodes.proofs.Tabling.{tabled}
+use Rattle.groups.proofs.Columns.{sized-whole}
 use Rattle.groups.proofs.size_reads.Statement.{statement}
 use Rattle.groups.proofs.size_reads.Tie as tie
 
-abbrev Inv-loop : tie.InvT-loop
-Inv-loop catalog plan requests₀ replies₀ count at₀ i₀ requests replies at i = Sizing (catalogOf catalog) plan count requests replies at i
+tag-places-requires : tie.Need-tag-places-requires
+tag-places-requires c κs = search needs
 
-abbrev μ-loop : tie.MeasureT-loop
-μ-loop catalog plan requests₀ replies₀ count at₀ i₀ requests replies at i = count - i
+type-places-requires : tie.Need-type-places-requires
+type-places-requires c κs = search needs
 
-read-count-requires : tie.Need-read-count-requires Inv-loop μ-loop
-read-count-requires c κs = search needs
+array-share-prefix-tags : tie.Need-array-share-prefix-tags
+array-share-prefix-tags c = answer-count _ _ _ _ (c .before .before .tag-places .ensures .1) (c .before .before .tag-places .ensures .0 .0) .0
 
-reads-start-requires : tie.Need-reads-start-requires Inv-loop μ-loop
-reads-start-requires c κs = search needs
+slice-aggregate-put-sizes : tie.Need-slice-aggregate-put-sizes
+slice-aggregate-put-sizes c = answer-count _ _ _ _ (c .before .before .before .tag-places .ensures .1) (c .before .before .before .tag-places .ensures .0 .0) .1
 
-loop-holds : tie.Need-loop-holds Inv-loop μ-loop
-loop-holds c = sizing-start _ _ _ (c .before .read-count .ensures) _ _ _ (c .reads-start .ensures) (c .before .before .before .before .before .before .pre)
+array-share-prefix-types : tie.Need-array-share-prefix-types
+array-share-prefix-types c = answer-count _ _ _ _ (c .before .type-places .ensures .1) (c .before .type-places .ensures .0 .0) .0
 
-text-at-requires : tie.Need-text-at-requires Inv-loop μ-loop
-text-at-requires c κs = search needs
+slice-aggregate-put-sizes-2 : tie.Need-slice-aggregate-put-sizes-2
+slice-aggregate-put-sizes-2 c = answer-count _ _ _ _ (c .before .before .type-places .ensures .1) (c .before .before .type-places .ensures .0 .0) .1
 
-sub-read-size : tie.Need-sub-read-size Inv-loop μ-loop
-sub-read-size c = search needs
+put-sizes-requires : tie.Need-put-sizes-requires
+put-sizes-requires c κs = search needs
 
-part-read-size-start : tie.Need-part-read-size-start Inv-loop μ-loop
-part-read-size-start c = search needs
-
-part-read-size-end : tie.Need-part-read-size-end Inv-loop μ-loop
-part-read-size-end c = search needs
-
-read-size-requires : tie.Need-read-size-requires Inv-loop μ-loop
-read-size-requires c κs = search needs
-
-mul-requests : tie.Need-mul-requests Inv-loop μ-loop
-mul-requests c = search needs
-
-slice-write-requests : tie.Need-slice-write-requests Inv-loop μ-loop
-slice-write-requests c = search needs
-
-mul-replies : tie.Need-mul-replies Inv-loop μ-loop
-mul-replies c = search needs
-
-slice-write-replies : tie.Need-slice-write-replies Inv-loop μ-loop
-slice-write-replies c = search needs
-
-read-past-requires : tie.Need-read-past-requires Inv-loop μ-loop
-read-past-requires c κs = search needs
-
-add-i : tie.Need-add-i Inv-loop μ-loop
-add-i c = search needs
-
-loop-less : tie.Need-loop-less Inv-loop μ-loop
-loop-less c = search needs
-
-loop-again : tie.Need-loop-again Inv-loop μ-loop
-loop-again c = sizing-next _ _ _ (c .before .before .before .before .before .before .before .read-count .ensures) _ _ _ _ (c .before .before .before .before .before .loop .inv) _ _ _ (c .before .before .before .before .loop-test .taken) (c .before .before .before .text-at .ensures .0) (c .before .read-size .ensures) (c .read-past .ensures)
-
-same-length : tie.Need-same-length Inv-loop μ-loop
+same-length : tie.Need-same-length
 same-length c = search needs
 
-same-length-2 : tie.Need-same-length-2 Inv-loop μ-loop
+same-length-2 : tie.Need-same-length-2
 same-length-2 c = search needs
 
-returns : tie.Need-returns Inv-loop μ-loop
-returns c = sizing-end _ _ _ (c .before .before .before .read-count .ensures) _ _ _ _ (c .before .loop .inv) (c .loop-test .left)
+returns : tie.Need-returns
+returns c = let t = c .before .before .before .before .before .before .before .before .before .before .before .tag-places .ensures in let y = c .before .before .before .before .before .before .before .before .before .type-places .ensures in sized-whole _ _ _ _ _ _ _ (tabled _ _ _ _ _ _ _ (t .0 .0) (t .1) (y .0 .0) (y .1)) (c .before .before .before .before .put-sizes .ensures)
 
 pub size-reads-spec : {M : Type 1} → statement M
 size-reads-spec =
     tie.close
     (tie.spec
-    Inv-loop
-    μ-loop
-    read-count-requires
-    reads-start-requires
-    loop-holds
-    text-at-requires
-    sub-read-size
-    part-read-size-start
-    part-read-size-end
-    read-size-requires
-    mul-requests
-    slice-write-requests
-    mul-replies
-    slice-write-replies
-    read-past-requires
-    add-i
-    loop-less
-    loop-again
+    tag-places-requires
+    type-places-requires
+    array-share-prefix-tags
+    slice-aggregate-put-sizes
+    array-share-prefix-types
+    slice-aggregate-put-sizes-2
+    put-sizes-requires
     same-length
     same-length-2
     returns)

@@ -16,7 +16,7 @@ number-at-requires : tie.Need-number-at-requires
 number-at-requires c κs = search needs
 
 returns : tie.Need-returns
-returns c = let a = c .before .before .before .before .before .before .args in size-other (now (a .marks)) (now (a .s)) (a .types) (a .at) _ _ _ (c .before .before .before .text-past .ensures) (c .before .before .text-past2 .ensures) (c .before .number-at .ensures .0) (c .before .number-at .ensures .1) (c .if1 .taken)
+returns c = let a = c .before .before .before .before .before .before .before .args in size-other (now (a .marks)) (now (a .s)) (now (a .types)) (a .at) _ _ _ (c .before .before .before .text-past .ensures) (c .before .before .text-past2 .ensures) (c .before .number-at .ensures .0) (c .before .number-at .ensures .1) (c .if1 .taken)
 
 text-at-requires : tie.Need-text-at-requires
 text-at-requires c κs = search needs
@@ -34,7 +34,7 @@ marked-type-requires : tie.Need-marked-type-requires
 marked-type-requires c κs = search needs
 
 returns-2 : tie.Need-returns-2
-returns-2 c = let a = c .before .before .before .before .before .before .before .before .before .args in let t = c .before .before .text-at .result in size-struct (now (a .marks)) (now (a .s)) (a .types) (a .at) _ _ _ (c .before .before .before .before .before .before .text-past .ensures) (c .before .before .before .before .before .text-past2 .ensures) (c .before .before .before .before .number-at .ensures .0) (c .before .before .before .before .number-at .ensures .1) (t .start) (t .end) _ (c .before .before .before .if1 .left) (part-text _ _ _ (c .before .before .text-at .ensures .0)) (c .marked-type .ensures)
+returns-2 c = let a = c .before .before .before .before .before .before .before .before .before .before .args in let t = c .before .before .text-at .result in size-struct (now (a .marks)) (now (a .s)) (now (a .types)) (a .at) _ _ _ (c .before .before .before .before .before .before .text-past .ensures) (c .before .before .before .before .before .text-past2 .ensures) (c .before .before .before .before .number-at .ensures .0) (c .before .before .before .before .number-at .ensures .1) (t .start) (t .end) _ (c .before .before .before .if1 .left) (part-text _ _ _ (c .before .before .text-at .ensures .0)) (c .marked-type .ensures)
 
 pub node-size-spec : {M : Type 1} → statement M
 node-size-spec =

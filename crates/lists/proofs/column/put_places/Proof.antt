@@ -1,24 +1,26 @@
--- The loop keeps that the places of the tags passed are put down in order, by the laws in TagPlaces.
+-- The loop keeps that the places of the tags passed are put down in order, by the laws of columns of places.
 use Prim.Native.Nat.{_-_}
 use borrow.Author.Needs.{needs}
-use Rattle.lists.proofs.TagPlaces.{Column, column-start, column-length, column-room, column-next, column-end}
+use Rattle.fields.proofs.Columns.{Column, column-start, column-length, column-room, column-next, column-end}
+use Rattle.lists.specs.Lists.{tag}
+use Rattle.lists.proofs.TagPlaces.{tag-past}
 use Rattle.lists.proofs.column.put_places.Statement.{statement}
 use Rattle.lists.proofs.column.put_places.Tie as tie
 
 abbrev Inv-loop : tie.InvT-loop
-Inv-loop s from n out₀ at₀ i₀ out at i = Column s from n out₀ out at i
+Inv-loop s from n out₀ at₀ i₀ out at i = Column tag s from n out₀ out at i
 
 abbrev μ-loop : tie.MeasureT-loop
 μ-loop s from n out₀ at₀ i₀ out at i = n - i
 
 loop-holds : tie.Need-loop-holds Inv-loop μ-loop
-loop-holds c = column-start _ _ _ _ (c .before .before .pre)
+loop-holds c = column-start tag _ _ _ _ (c .before .before .pre)
 
 mul-out : tie.Need-mul-out Inv-loop μ-loop
-mul-out c = let h = column-room _ _ _ _ _ _ _ (c .before .loop .inv) (c .loop-test .taken) in search needs
+mul-out c = let h = column-room tag _ _ _ _ _ _ _ (c .before .loop .inv) (c .loop-test .taken) in search needs
 
 slice-write-out : tie.Need-slice-write-out Inv-loop μ-loop
-slice-write-out c = column-room _ _ _ _ _ _ _ (c .before .loop .inv) (c .loop-test .taken)
+slice-write-out c = column-room tag _ _ _ _ _ _ _ (c .before .loop .inv) (c .loop-test .taken)
 
 text-past-requires : tie.Need-text-past-requires Inv-loop μ-loop
 text-past-requires c κs = search needs
@@ -30,13 +32,13 @@ loop-less : tie.Need-loop-less Inv-loop μ-loop
 loop-less c = search needs
 
 loop-again : tie.Need-loop-again Inv-loop μ-loop
-loop-again c = column-next _ _ _ _ _ _ _ (c .before .before .loop .inv) _ (c .before .loop-test .taken) (c .text-past .ensures)
+loop-again c = column-next tag _ _ _ _ _ _ _ (c .before .before .loop .inv) _ (c .before .loop-test .taken) (tag-past _ _ _ (c .text-past .ensures))
 
 same-length : tie.Need-same-length Inv-loop μ-loop
-same-length c = column-length _ _ _ _ _ _ _ (c .before .loop .inv)
+same-length c = column-length tag _ _ _ _ _ _ _ (c .before .loop .inv)
 
 returns : tie.Need-returns Inv-loop μ-loop
-returns c = column-end _ _ _ _ _ _ _ (c .before .loop .inv) (c .loop-test .left)
+returns c = column-end tag _ _ _ _ _ _ _ (c .before .loop .inv) (c .loop-test .left)
 
 pub put-places-spec : {M : Type 1} → statement M
 put-places-spec =

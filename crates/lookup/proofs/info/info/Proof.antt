@@ -1,61 +1,44 @@
--- `info` meets its contract: the whole name as a tag, else the tag and the members of the name without brackets.
-use mathlib.Core.Path.{sym}
-use native.Mathlib.Omega.{arith}
-use lib.Seq.{length-take-le}
+-- `info` meets its contract: the tables hold the places of all tags and of all types.
 use borrow.Author.Needs.{needs}
-use Rattle.lookup.proofs.Plain.{info-tag, info-path, too-long, spelled-part, spelled-within}
+use Rattle.fields.proofs.Patches.{answer-count}
+use Rattle.nodes.proofs.Tabling.{tabled}
+use Rattle.lookup.proofs.Plain.{looked-whole}
 use Rattle.lookup.proofs.info.info.Statement.{statement}
 use Rattle.lookup.proofs.info.info.Tie as tie
 
+tag-places-requires : tie.Need-tag-places-requires
+tag-places-requires c κs = search needs
+
+type-places-requires : tie.Need-type-places-requires
+type-places-requires c κs = search needs
+
+array-share-prefix-tags : tie.Need-array-share-prefix-tags
+array-share-prefix-tags c = answer-count _ _ _ _ (c .before .before .tag-places .ensures .1) (c .before .before .tag-places .ensures .0 .0) .0
+
+slice-aggregate-info-in : tie.Need-slice-aggregate-info-in
+slice-aggregate-info-in c = answer-count _ _ _ _ (c .before .before .before .tag-places .ensures .1) (c .before .before .before .tag-places .ensures .0 .0) .1
+
+array-share-prefix-types : tie.Need-array-share-prefix-types
+array-share-prefix-types c = answer-count _ _ _ _ (c .before .type-places .ensures .1) (c .before .type-places .ensures .0 .0) .0
+
+slice-aggregate-info-in-2 : tie.Need-slice-aggregate-info-in-2
+slice-aggregate-info-in-2 c = answer-count _ _ _ _ (c .before .before .type-places .ensures .1) (c .before .before .type-places .ensures .0 .0) .1
+
+info-in-requires : tie.Need-info-in-requires
+info-in-requires c κs = search needs
+
 returns : tie.Need-returns
-returns c = too-long _ _ (c .if1 .taken)
-
-find-tag-requires : tie.Need-find-tag-requires
-find-tag-requires c κs = search needs
-
-enum-known-tag : tie.Need-enum-known-tag
-enum-known-tag c = search needs
-
-enum-told : tie.Need-enum-told
-enum-told c = search needs
-
-prefix-end-requires : tie.Need-prefix-end-requires
-prefix-end-requires c κs = search needs
-
-slice-aggregate-spell : tie.Need-slice-aggregate-spell
-slice-aggregate-spell c = search needs
-
-spell-requires : tie.Need-spell-requires
-spell-requires c κs = search needs
-
-array-share-prefix-plain : tie.Need-array-share-prefix-plain
-array-share-prefix-plain c = search needs
-
-slice-aggregate-node-of-path : tie.Need-slice-aggregate-node-of-path
-slice-aggregate-node-of-path c = sym (length-take-le _ _ (omega (arith, c .before .before .spell .ensures .0 .1, c .before .before .before .before .before .before .before .before .if1 .left, c .before .plain2 .given)))
-
-node-of-path-requires : tie.Need-node-of-path-requires
-node-of-path-requires c κs = spelled-within _ _ _ _ _ (c .before .before .spell .ensures .0 .0) (c .before .before .spell .ensures .1) (c .before .before .before .before .prefix-end .ensures .1)
-
-returns-2 : tie.Need-returns-2
-returns-2 c = info-tag _ _ _ (c .before .before .before .find-tag .ensures) (c .before .before .before .before .if1 .left) _ (c .before .tag .given .1)
-
-returns-3 : tie.Need-returns-3
-returns-3 c = info-path _ _ _ (c .before .before .before .before .before .before .before .before .find-tag .ensures) (c .before .before .before .before .before .before .before .before .before .if1 .left) _ _ _ (c .before .before .before .before .before .before .enum-told .given .1) (c .before .before .before .before .before .prefix-end .ensures .0) (c .before .before .before .before .before .prefix-end .ensures .1) (spelled-part _ _ _ _ (c .before .before .before .spell .ensures .0 .0) (c .before .before .before .spell .ensures .1)) (c .node-of-path .ensures)
+returns c = let t = c .before .before .before .before .before .tag-places .ensures in let y = c .before .before .before .type-places .ensures in looked-whole _ _ _ _ _ (tabled _ _ _ _ _ _ _ (t .0 .0) (t .1) (y .0 .0) (y .1)) (c .info-in .ensures)
 
 pub info-spec : {M : Type 1} → statement M
 info-spec =
     tie.close
     (tie.spec
-    returns
-    find-tag-requires
-    enum-known-tag
-    enum-told
-    prefix-end-requires
-    slice-aggregate-spell
-    spell-requires
-    array-share-prefix-plain
-    slice-aggregate-node-of-path
-    node-of-path-requires
-    returns-2
-    returns-3)
+    tag-places-requires
+    type-places-requires
+    array-share-prefix-tags
+    slice-aggregate-info-in
+    array-share-prefix-types
+    slice-aggregate-info-in-2
+    info-in-requires
+    returns)

@@ -1,20 +1,20 @@
--- `node_of_path` meets its contract: the first part, with the program part before it, names the tag, and where no part is left it is the tag.
-use mathlib.Core.Path.{refl, sym}
+-- `node_of_path` meets its contract: the first part, with the program part before it, names the tag, and the parts behind it the members.
+use mathlib.Core.Path.{sym}
 use lib.Seq.{length-take-le}
 use borrow.Author.Needs.{needs}
 use denote.Ref.{now}
-use Rattle.lookup.proofs.Paths.{part-within, members-end, path-found, path-missing}
+use Rattle.lookup.proofs.Paths.{part-within, path-found, path-missing}
 use Rattle.lookup.proofs.info.node_of_path.Statement.{statement}
 use Rattle.lookup.proofs.info.node_of_path.Tie as tie
 
 place-of-requires : tie.Need-place-of-requires
 place-of-requires c κs = search needs
 
-slice-aggregate-find-tag : tie.Need-slice-aggregate-find-tag
-slice-aggregate-find-tag c = let w = part-within (now (c .before .before .before .before .args .t)) _ _ (c .before .before .before .before .pre) (c .before .place-of .ensures) in sym (length-take-le _ (now (c .before .before .before .before .args .t)) (w .1))
+slice-aggregate-find-node-in : tie.Need-slice-aggregate-find-node-in
+slice-aggregate-find-node-in c = let w = part-within (now (c .before .before .before .before .before .before .args .t)) _ _ (c .before .before .before .before .before .before .pre) (c .before .place-of .ensures) in sym (length-take-le _ (now (c .before .before .before .before .before .before .args .t)) (w .1))
 
-find-tag-requires : tie.Need-find-tag-requires
-find-tag-requires c κs = search needs
+find-node-in-requires : tie.Need-find-node-in-requires
+find-node-in-requires c κs = search needs
 
 enum-told : tie.Need-enum-told
 enum-told c = search needs
@@ -22,32 +22,24 @@ enum-told c = search needs
 enum-known-found : tie.Need-enum-known-found
 enum-known-found c = search needs
 
-returns : tie.Need-returns
-returns c = path-found _ _ _ _ (c .before .before .before .before .before .before .before .before .before .pre) (c .before .before .before .before .before .before .place-of .ensures) _ (c .before .before .before .before .find-tag .ensures) _ _ (c .before .before .found .given .1) (members-end _ _ _ _ _ (c .if1 .taken) refl)
-
-types-start-requires : tie.Need-types-start-requires
-types-start-requires c κs = search needs
-
 members-of-requires : tie.Need-members-of-requires
-members-of-requires c κs = c .types-start .ensures
+members-of-requires c κs = search needs
+
+returns : tie.Need-returns
+returns c = path-missing _ _ _ _ _ _ (c .before .before .before .before .before .before .before .before .before .pre) (c .before .before .before .before .place-of .ensures) _ (c .before .before .find-node-in .ensures) (c .enum-told .given .1)
 
 returns-2 : tie.Need-returns-2
-returns-2 c = path-missing _ _ _ _ (c .before .before .before .before .before .before .before .pre) (c .before .before .before .before .place-of .ensures) _ (c .before .before .find-tag .ensures) (c .enum-told .given .1)
-
-returns-3 : tie.Need-returns-3
-returns-3 c = path-found _ _ _ _ (c .before .before .before .before .before .before .before .before .before .before .before .pre) (c .before .before .before .before .before .before .before .before .place-of .ensures) _ (c .before .before .before .before .before .before .find-tag .ensures) _ _ (c .before .before .before .before .found .given .1) (c .members-of .ensures)
+returns-2 c = path-found _ _ _ _ _ _ (c .before .before .before .before .before .before .before .before .before .before .before .pre) (c .before .before .before .before .before .before .place-of .ensures) _ (c .before .before .before .before .find-node-in .ensures) _ _ (c .before .before .found .given .1) (c .members-of .ensures)
 
 pub node-of-path-spec : {M : Type 1} → statement M
 node-of-path-spec =
     tie.close
     (tie.spec
     place-of-requires
-    slice-aggregate-find-tag
-    find-tag-requires
+    slice-aggregate-find-node-in
+    find-node-in-requires
     enum-told
     enum-known-found
-    returns
-    types-start-requires
     members-of-requires
-    returns-2
-    returns-3)
+    returns
+    returns-2)

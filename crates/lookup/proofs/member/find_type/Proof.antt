@@ -1,50 +1,51 @@
 -- `find_type` meets its contract: what is left of the places of types gives what all of them give.
-use mathlib.Core.Path.{_≡_}
+use Prim.Native.Nat.{_-_}
+use mathlib.Core.Path.{_≡_, refl}
+use lib.ListN.{length, drop}
 use borrow.Author.Needs.{needs}
-use Rattle.fields.specs.Places.{placesFrom}
+use Rattle.fields.proofs.Lists.{drop-next, drop-past}
 use Rattle.catalog.specs.Finding.{find}
-use Rattle.catalog.specs.Catalog.{typeDef}
 use Rattle.nodes.specs.Placed.{isNamedAt}
 use Rattle.nodes.proofs.Finds.{search-none, search-here, search-later}
 use Rattle.lookup.specs.Placed.{typePlaceIn}
-use Rattle.lookup.proofs.Types.{types-counted}
 use Rattle.lookup.proofs.member.find_type.Statement.{statement}
 use Rattle.lookup.proofs.member.find_type.Tie as tie
 
 abbrev Inv-loop : tie.InvT-loop
-Inv-loop s types name at₀ k₀ at k = find (isNamedAt s name) (placesFrom typeDef k s at) ≡ typePlaceIn s types name
+Inv-loop s types name i₀ i = find (isNamedAt s name) (drop i types) ≡ typePlaceIn s types name
 
 abbrev μ-loop : tie.MeasureT-loop
-μ-loop s types name at₀ k₀ at k = k
-
-type-count-requires : tie.Need-type-count-requires Inv-loop μ-loop
-type-count-requires c κs = search needs
+μ-loop s types name i₀ i = length types - i
 
 loop-holds : tie.Need-loop-holds Inv-loop μ-loop
-loop-holds c = types-counted _ _ _ _ (c .type-count .ensures .0)
+unfolding typePlaceIn
+loop-holds c = refl
+
+mul-at : tie.Need-mul-at Inv-loop μ-loop
+mul-at c = search needs
+
+shared-slice-read-at : tie.Need-shared-slice-read-at Inv-loop μ-loop
+shared-slice-read-at c = search needs
 
 is-named-requires : tie.Need-is-named-requires Inv-loop μ-loop
 is-named-requires c κs = search needs
 
 returns : tie.Need-returns Inv-loop μ-loop
 unfolding isNamedAt
-returns c = search-here typeDef _ _ _ _ _ (c .before .before .before .loop .inv) _ (c .before .before .loop-test .taken) (c .before .is-named .ensures) (c .if1 .taken)
+returns c = search-here _ _ _ (c .before .before .before .before .loop .inv) _ _ (drop-next _ _ (c .before .before .before .loop-test .taken)) _ (c .before .is-named .ensures) (c .if1 .taken)
 
-type-past-requires : tie.Need-type-past-requires Inv-loop μ-loop
-type-past-requires c κs = search needs
-
-sub-k : tie.Need-sub-k Inv-loop μ-loop
-sub-k c = search needs
+add-i : tie.Need-add-i Inv-loop μ-loop
+add-i c = search needs
 
 loop-less : tie.Need-loop-less Inv-loop μ-loop
 loop-less c = search needs
 
 loop-again : tie.Need-loop-again Inv-loop μ-loop
 unfolding isNamedAt
-loop-again c = search-later typeDef _ _ _ _ _ (c .before .before .before .before .loop .inv) _ (c .before .before .before .loop-test .taken) (c .before .before .is-named .ensures) _ (c .before .if1 .left) (c .type-past .ensures)
+loop-again c = search-later _ _ _ (c .before .before .before .before .loop .inv) _ _ (drop-next _ _ (c .before .before .before .loop-test .taken)) _ (c .before .is-named .ensures) (c .if1 .left)
 
 returns-2 : tie.Need-returns-2 Inv-loop μ-loop
-returns-2 c = search-none typeDef _ _ _ _ _ (c .before .loop .inv) (c .loop-test .left)
+returns-2 c = search-none _ _ _ (c .before .loop .inv) (drop-past _ _ (c .loop-test .left))
 
 pub find-type-spec : {M : Type 1} → statement M
 find-type-spec =
@@ -52,12 +53,12 @@ find-type-spec =
     (tie.spec
     Inv-loop
     μ-loop
-    type-count-requires
     loop-holds
+    mul-at
+    shared-slice-read-at
     is-named-requires
     returns
-    type-past-requires
-    sub-k
+    add-i
     loop-less
     loop-again
     returns-2)

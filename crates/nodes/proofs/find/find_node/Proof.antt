@@ -1,22 +1,23 @@
 -- The loop keeps that the nodes left, with the first place kept meanwhile, give what the two searches of all of them give.
-use mathlib.Core.Path.{_≡_, sym, _∙_}
+use mathlib.Core.Path.{_≡_, refl, sym, _∙_}
 use mathlib.Core.Logic.{⊎-elim}
 use borrow.Author.Needs.{needs}
 use Rattle.fields.specs.Places.{placesFrom}
+use Rattle.fields.proofs.Rows.{places-none}
 use Rattle.catalog.specs.Catalog.{node}
 use Rattle.nodes.specs.Placed.{isNamedAt, isCalledAt, nodePlace}
-use Rattle.nodes.proofs.Passes.{passed, pass-start, pass-end, pass-named, pass-called, pass-other}
+use Rattle.nodes.proofs.Passes.{passed, pass-start, pass-end, pass-named, pass-called, pass-other, walk-next}
 use Rattle.nodes.proofs.find.find_node.Statement.{statement}
 use Rattle.nodes.proofs.find.find_node.Tie as tie
 
 abbrev Inv-loop : tie.InvT-loop
-Inv-loop s from n name at₀ k₀ called₀ at k called = passed s name at k called ≡ nodePlace s name (placesFrom node n s from)
+Inv-loop s from n name at₀ k₀ called₀ at k called = passed s name (placesFrom node k s at) called ≡ nodePlace s name (placesFrom node n s from)
 
 abbrev μ-loop : tie.MeasureT-loop
 μ-loop s from n name at₀ k₀ called₀ at k called = k
 
 loop-holds : tie.Need-loop-holds Inv-loop μ-loop
-loop-holds c = pass-start _ _ _ _
+loop-holds c = pass-start _ _ _
 
 is-called-requires : tie.Need-is-called-requires Inv-loop μ-loop
 is-called-requires c κs = search needs
@@ -26,7 +27,7 @@ is-named-requires c κs = search needs
 
 returns : tie.Need-returns Inv-loop μ-loop
 unfolding isNamedAt
-returns c = pass-named _ _ _ _ _ _ (c .before .before .before .before .before .loop .inv) (c .before .before .before .before .loop-test .taken) (sym (c .before .is-named .ensures) ∙ c .if2 .taken)
+returns c = pass-named _ _ _ _ _ (c .before .before .before .before .before .loop .inv) _ _ (walk-next _ _ _ _ (c .before .before .before .before .loop-test .taken) refl) (sym (c .before .is-named .ensures) ∙ c .if2 .taken)
 
 either-requires : tie.Need-either-requires Inv-loop μ-loop
 either-requires c κs = search needs
@@ -42,10 +43,10 @@ loop-less c = search needs
 
 loop-again : tie.Need-loop-again Inv-loop μ-loop
 unfolding isNamedAt isCalledAt
-loop-again c = ⊎-elim (λ w. pass-called _ _ _ _ _ _ (c .before .before .before .before .loop .inv) (c .before .before .before .loop-test .taken) _ _ (sym (c .before .before .is-called .ensures) ∙ w .0 .taken) (sym (w .1 .ensures) ∙ w .2 .left) (w .4 ∙ w .3 .ensures) (c .node-past .ensures)) (λ w. pass-other _ _ _ _ _ _ (c .before .before .before .before .loop .inv) (c .before .before .before .loop-test .taken) _ _ (sym (c .before .before .is-called .ensures) ∙ w .0 .left) (w .1) (c .node-past .ensures)) (c .before .if1 .came)
+loop-again c = ⊎-elim (λ w. pass-called _ _ _ _ _ (c .before .before .before .before .loop .inv) _ _ (walk-next _ _ _ _ (c .before .before .before .loop-test .taken) (c .node-past .ensures)) _ (sym (c .before .before .is-called .ensures) ∙ w .0 .taken) (sym (w .1 .ensures) ∙ w .2 .left) (w .4 ∙ w .3 .ensures)) (λ w. pass-other _ _ _ _ _ (c .before .before .before .before .loop .inv) _ _ (walk-next _ _ _ _ (c .before .before .before .loop-test .taken) (c .node-past .ensures)) _ (sym (c .before .before .is-called .ensures) ∙ w .0 .left) (w .1)) (c .before .if1 .came)
 
 returns-2 : tie.Need-returns-2 Inv-loop μ-loop
-returns-2 c = pass-end _ _ _ _ _ _ (c .before .loop .inv) (c .loop-test .left)
+returns-2 c = pass-end _ _ _ _ _ (c .before .loop .inv) (places-none node _ _ _ (c .loop-test .left))
 
 pub find-node-spec : {M : Type 1} → statement M
 find-node-spec =

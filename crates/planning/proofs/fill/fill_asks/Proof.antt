@@ -1,72 +1,43 @@
--- `fill_asks` meets its contract: the first requests are there, and the next one is that of the name which stands in the list file.
-use Prim.Native.Nat.{_-_}
-use native.Mathlib.Omega.{arith}
+-- `fill_asks` meets its contract: the tables hold the places of all tags and of all types.
 use borrow.Author.Needs.{needs}
-use Rattle.planning.proofs.Asking.{Asking, asking-start, asking-next, asking-end}
+use Rattle.fields.proofs.Patches.{answer-count}
+use Rattle.nodes.proofs.Tabling.{tabled}
 use Rattle.planning.proofs.fill.fill_asks.Statement.{statement}
 use Rattle.planning.proofs.fill.fill_asks.Tie as tie
 
-abbrev Inv-loop : tie.InvT-loop
-Inv-loop catalog list places spellers spans groups to₀ j₀ to j = Asking catalog list places spellers spans groups to j
+tag-places-requires : tie.Need-tag-places-requires
+tag-places-requires c κs = search needs
 
-abbrev μ-loop : tie.MeasureT-loop
-μ-loop catalog list places spellers spans groups to₀ j₀ to j = groups - j
+type-places-requires : tie.Need-type-places-requires
+type-places-requires c κs = search needs
 
-loop-holds : tie.Need-loop-holds Inv-loop μ-loop
-loop-holds c = asking-start _ _ _ _ _ _ _ (c .before .before .before .pre) (c .to .given .0 .1)
+array-share-prefix-bases : tie.Need-array-share-prefix-bases
+array-share-prefix-bases c = answer-count _ _ _ _ (c .before .before .tag-places .ensures .1) (c .before .before .tag-places .ensures .0 .0) .0
 
-name-of-requires : tie.Need-name-of-requires Inv-loop μ-loop
-name-of-requires c κs = omega (arith, c .loop-test .taken, c .before .loop .inv .few)
+slice-aggregate-put-asks : tie.Need-slice-aggregate-put-asks
+slice-aggregate-put-asks c = answer-count _ _ _ _ (c .before .before .before .tag-places .ensures .1) (c .before .before .before .tag-places .ensures .0 .0) .1
 
-sub-request-size : tie.Need-sub-request-size Inv-loop μ-loop
-sub-request-size c = omega (arith, c .name-of .ensures)
+array-share-prefix-types : tie.Need-array-share-prefix-types
+array-share-prefix-types c = answer-count _ _ _ _ (c .before .type-places .ensures .1) (c .before .type-places .ensures .0 .0) .0
 
-part-request-size-start : tie.Need-part-request-size-start Inv-loop μ-loop
-part-request-size-start c = search needs
+slice-aggregate-put-asks-2 : tie.Need-slice-aggregate-put-asks-2
+slice-aggregate-put-asks-2 c = answer-count _ _ _ _ (c .before .before .type-places .ensures .1) (c .before .before .type-places .ensures .0 .0) .1
 
-part-request-size-end : tie.Need-part-request-size-end Inv-loop μ-loop
-part-request-size-end c = search needs
+put-asks-requires : tie.Need-put-asks-requires
+put-asks-requires c κs = let t = c .before .before .before .before .before .tag-places .ensures in let y = c .before .before .before .type-places .ensures in (c .before .before .before .before .before .before .before .before .before .pre, tabled _ _ _ _ _ _ _ (t .0 .0) (t .1) (y .0 .0) (y .1))
 
-request-size-requires : tie.Need-request-size-requires Inv-loop μ-loop
-request-size-requires c κs = search needs
-
-cast-to : tie.Need-cast-to Inv-loop μ-loop
-cast-to c = omega (arith, c .request-size .ensures .1)
-
-mul-to : tie.Need-mul-to Inv-loop μ-loop
-mul-to c = omega (arith, c .before .before .before .before .loop .inv .few, c .before .before .before .loop-test .taken)
-
-slice-write-to : tie.Need-slice-write-to Inv-loop μ-loop
-slice-write-to c = omega (arith, c .before .before .before .before .loop .inv .wide, c .before .before .before .before .loop .inv .few, c .before .before .before .loop-test .taken)
-
-add-j : tie.Need-add-j Inv-loop μ-loop
-add-j c = omega (arith, c .before .before .before .before .loop .inv .few, c .before .before .before .loop-test .taken)
-
-loop-less : tie.Need-loop-less Inv-loop μ-loop
-loop-less c = omega (arith, c .before .before .before .loop-test .taken)
-
-loop-again : tie.Need-loop-again Inv-loop μ-loop
-loop-again c = asking-next _ _ _ _ _ _ _ _ (c .before .before .before .before .loop .inv) _ _ (c .before .before .before .loop-test .taken) (c .before .before .name-of .ensures .0) (c .request-size .ensures .0)
-
-returns : tie.Need-returns Inv-loop μ-loop
-returns c = asking-end _ _ _ _ _ _ _ _ (c .before .loop .inv) (c .loop-test .left)
+returns : tie.Need-returns
+returns c = c .put-asks .ensures
 
 pub fill-asks-spec : {M : Type 1} → statement M
 fill-asks-spec =
     tie.close
     (tie.spec
-    Inv-loop
-    μ-loop
-    loop-holds
-    name-of-requires
-    sub-request-size
-    part-request-size-start
-    part-request-size-end
-    request-size-requires
-    cast-to
-    mul-to
-    slice-write-to
-    add-j
-    loop-less
-    loop-again
+    tag-places-requires
+    type-places-requires
+    array-share-prefix-bases
+    slice-aggregate-put-asks
+    array-share-prefix-types
+    slice-aggregate-put-asks-2
+    put-asks-requires
     returns)

@@ -3,7 +3,7 @@ use native.Mathlib.Omega.{arith}
 use mathlib.Core.Path.{refl}
 use denote.Ref.{now}
 use borrow.Author.Needs.{needs}
-use Rattle.planning.proofs.Putting.{answer-count}
+use Rattle.fields.proofs.Patches.{answer-count}
 use Rattle.planning.proofs.Heads.{run-room, run-put, part-long}
 use Rattle.planning.proofs.write.write_run.Statement.{statement}
 use Rattle.planning.proofs.write.write_run.Tie as tie

@@ -1,7 +1,7 @@
 -- `write_under` meets its contract: a member with the path of its tokens from the end of the struct's name on.
 use native.Mathlib.Omega.{arith}
 use borrow.Author.Needs.{needs}
-use Rattle.planning.proofs.Putting.{answer-count}
+use Rattle.fields.proofs.Patches.{answer-count}
 use Rattle.planning.proofs.Heads.{walk-there, path-there, under-room, under-put}
 use Rattle.planning.proofs.write.write_under.Statement.{statement}
 use Rattle.planning.proofs.write.write_under.Tie as tie

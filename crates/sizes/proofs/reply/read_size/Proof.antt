@@ -1,57 +1,44 @@
--- `read_size` meets its contract: the array of a range is the front of the name.
-use mathlib.Core.Path.{sym, ap, _∙_}
+-- `read_size` meets its contract: the tables hold the places of all tags and of all types.
 use borrow.Author.Needs.{needs}
-use Rattle.nodes.specs.Reading.{foundIn}
-use Rattle.lookup.proofs.Placed.{looked-is}
-use Rattle.sizes.proofs.Named.{range-length, range-short, read-long, read-plain, read-range}
+use Rattle.fields.proofs.Patches.{answer-count}
+use Rattle.nodes.proofs.Tabling.{tabled}
+use Rattle.sizes.proofs.Named.{read-whole}
 use Rattle.sizes.proofs.reply.read_size.Statement.{statement}
 use Rattle.sizes.proofs.reply.read_size.Tie as tie
 
+tag-places-requires : tie.Need-tag-places-requires
+tag-places-requires c κs = search needs
+
+type-places-requires : tie.Need-type-places-requires
+type-places-requires c κs = search needs
+
+array-share-prefix-tags : tie.Need-array-share-prefix-tags
+array-share-prefix-tags c = answer-count _ _ _ _ (c .before .before .tag-places .ensures .1) (c .before .before .tag-places .ensures .0 .0) .0
+
+slice-aggregate-read-size-in : tie.Need-slice-aggregate-read-size-in
+slice-aggregate-read-size-in c = answer-count _ _ _ _ (c .before .before .before .tag-places .ensures .1) (c .before .before .before .tag-places .ensures .0 .0) .1
+
+array-share-prefix-types : tie.Need-array-share-prefix-types
+array-share-prefix-types c = answer-count _ _ _ _ (c .before .type-places .ensures .1) (c .before .type-places .ensures .0 .0) .0
+
+slice-aggregate-read-size-in-2 : tie.Need-slice-aggregate-read-size-in-2
+slice-aggregate-read-size-in-2 c = answer-count _ _ _ _ (c .before .before .type-places .ensures .1) (c .before .before .type-places .ensures .0 .0) .1
+
+read-size-in-requires : tie.Need-read-size-in-requires
+read-size-in-requires c κs = search needs
+
 returns : tie.Need-returns
-returns c = read-long _ _ (c .if1 .taken)
-
-range-requires : tie.Need-range-requires
-range-requires c κs = search needs
-
-enum-known-g : tie.Need-enum-known-g
-enum-known-g c = search needs
-
-slice-aggregate-range-size : tie.Need-slice-aggregate-range-size
-slice-aggregate-range-size c = range-length _ _ _ (sym (c .before .before .before .before .range .ensures) ∙ c .before .before .g .given .1)
-
-range-size-requires : tie.Need-range-size-requires
-range-size-requires c κs = range-short _ _ _ (sym (c .before .before .before .before .range .ensures) ∙ c .before .before .g .given .1) (c .before .before .before .before .before .if1 .left)
-
-enum-told : tie.Need-enum-told
-enum-told c = search needs
-
-request-size-requires : tie.Need-request-size-requires
-request-size-requires c κs = search needs
-
-info-requires : tie.Need-info-requires
-info-requires c κs = search needs
-
-reply-size-requires : tie.Need-reply-size-requires
-reply-size-requires c κs = search needs
-
-returns-2 : tie.Need-returns-2
-returns-2 c = read-range _ _ (c .before .before .before .before .before .before .if1 .left) _ _ _ (sym (c .before .before .before .before .before .range .ensures) ∙ c .before .before .before .g .given .1) (c .range-size .ensures)
-
-returns-3 : tie.Need-returns-3
-returns-3 c = read-plain _ _ (c .before .before .before .before .before .before .if1 .left) _ _ _ (sym (c .before .before .before .before .before .range .ensures) ∙ c .before .before .before .enum-told .given .1) (c .before .before .request-size .ensures .0) (ap (foundIn _) (c .before .info .ensures) ∙ looked-is _ _) (c .reply-size .ensures)
+returns c = let t = c .before .before .before .before .before .tag-places .ensures in let y = c .before .before .before .type-places .ensures in read-whole _ _ _ _ (tabled _ _ _ _ _ _ _ (t .0 .0) (t .1) (y .0 .0) (y .1)) _ (c .read-size-in .ensures)
 
 pub read-size-spec : {M : Type 1} → statement M
 read-size-spec =
     tie.close
     (tie.spec
-    returns
-    range-requires
-    enum-known-g
-    slice-aggregate-range-size
-    range-size-requires
-    enum-told
-    request-size-requires
-    info-requires
-    reply-size-requires
-    returns-2
-    returns-3)
+    tag-places-requires
+    type-places-requires
+    array-share-prefix-tags
+    slice-aggregate-read-size-in
+    array-share-prefix-types
+    slice-aggregate-read-size-in-2
+    read-size-in-requires
+    returns)
