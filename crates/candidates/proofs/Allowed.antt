@@ -18,7 +18,7 @@ use Rattle.planner.specs.Tags.{Above, Tag, tagsOf}
 use Rattle.planner.specs.Candidates.{Group, positionsOf, aboveBy, isUnder, isItself, isAllowed, structsOf, structGroup}
 use Rattle.planner.proofs.Each.{IfThere, each-keep, of-found}
 use Rattle.candidates.specs.Columns.{Bunch, rowKey, bunchOf, wholesIn, bunchName, bunchKey, groupOf}
-use Rattle.planner.specs.Rows.{Row, rowsFrom, rowOf}
+use Rattle.planner.specs.Rows.{Row, rowsFrom}
 use Rattle.candidates.proofs.Kept.{keep-map, keep-agree, map-agree}
 use Rattle.candidates.proofs.Known.{Spells}
 use Rattle.candidates.proofs.Told.{Listing, EachAt, Told, tags-told}

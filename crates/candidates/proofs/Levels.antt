@@ -5,7 +5,7 @@ use Prim.Native.Nat.{ℕ, zero, suc, _+_, _≤_, _<_}
 use native.Mathlib.Omega.{arith}
 use mathlib.Core.Path.{_≡_, refl, sym, ap, _∙_}
 use mathlib.Core.Bool.{Bool, true, false, cond}
-use mathlib.Core.List.{List, [], _∷_, _++_, map, map-map}
+use mathlib.Core.List.{List, [], _∷_, _++_, map}
 use lib.Dec.{eqb}
 use lib.ListN.{length}
 use borrow.Author.Tests.{ne-eqb, eqb-true, eqb-false, le-leb, lt-leb}
@@ -18,13 +18,13 @@ use Rattle.catalog.specs.Catalog.{Catalog}
 use Rattle.lists.specs.Lists.{TagList}
 use Rattle.planner.specs.Lists.{keep}
 use Rattle.planner.specs.Tags.{Above, tagsOf}
-use Rattle.planner.specs.Candidates.{structsOf, placedAbove, outermostFirst}
+use Rattle.planner.specs.Candidates.{placedAbove, outermostFirst}
 use Rattle.planner.proofs.Each.{each-map}
 use Rattle.candidates.specs.Columns.{Bunch, positions, bunchOf, wholesIn, bunchName}
-use Rattle.planner.specs.Rows.{rowsFrom, rowOf}
+use Rattle.planner.specs.Rows.{rowsFrom}
 use Rattle.candidates.proofs.Kept.{keep-map, joined-map}
 use Rattle.candidates.proofs.Told.{Listing, tags-told}
-use Rattle.candidates.proofs.WholesOf.{namedAbove, bunchAbove, of-wholes, structs-are}
+use Rattle.candidates.proofs.WholesOf.{namedAbove, bunchAbove, of-wholes}
 
 -- ---- the level of a group
 

@@ -6,13 +6,13 @@ use mathlib.Core.Path.{_≡_, refl, ap₂}
 use mathlib.Core.List.{List}
 use native.Mathlib.Omega.{arith}
 use lib.ListN.{length}
-use Rattle.fields.specs.Format.{Verdict, fine, Format, _then_, leading, mapped, many, manyRead, onward, joined}
-use Rattle.fields.specs.Fields.{number, choice, numeric, text}
+use Rattle.fields.specs.Format.{fine, _then_, leading, many, manyRead, onward, joined}
+use Rattle.fields.specs.Fields.{number, choice, numeric}
 use Rattle.fields.proofs.Lists.{Bytes}
 use Rattle.fields.proofs.Lawful.{Lawful, _and_, lawful-leading, lawful-mapped, lawful-many, many-length}
 use Rattle.fields.proofs.LawfulFields.{lawful-number, lawful-choice, lawful-text, lawful-counted, lawful-optional}
 use Rattle.fields.proofs.WholeFiles.{accepted, accepts}
-use Rattle.catalog.specs.Catalog.{Node, TypeDef, Catalog, kindOf, kindByte, aoiOf, aoiByte, name, kind, aoi, dims, id, size, fromId, fromKind, nodeFields, node, members, fromAoi, typeFields, typeDef, counts, countsOf, tagsAndTypes, catalog, longestFile, catalogOf, fieldsVerdict, layout}
+use Rattle.catalog.specs.Catalog.{Catalog, kindOf, kindByte, aoiOf, aoiByte, name, kind, aoi, dims, id, size, nodeFields, node, members, typeFields, typeDef, counts, countsOf, tagsAndTypes, catalog, longestFile, catalogOf, fieldsVerdict, layout}
 use Rattle.catalog.specs.declared.Kind.{Kind}
 use Rattle.catalog.specs.declared.Kind.the-variants.{Atomic, Struct, String}
 use Rattle.catalog.specs.declared.Aoi.{Aoi}

@@ -1,19 +1,17 @@
 -- The check of a node, of a type and of a catalog is that of their fields in a row, and their two counts are the two numbers at the front.
 -- Fields of one kind in a row are checked by a loop: what is left gives what the whole gives, with one law for each way through it.
 -- Assumes nothing.
-use Prim.Native.Nat.{ℕ, _+_, _-_, _≤_, _<_}
+use Prim.Native.Nat.{ℕ, _+_, _-_}
 use mathlib.Core.Path.{_≡_, sym, ap₂, ap, _∙_}
 use mathlib.Core.List.{List}
 use native.Mathlib.Omega.{arith}
 use lib.ListN.{length, take, drop}
-use Rattle.fields.specs.Format.{Format, leading, many}
+use Rattle.fields.specs.Format.{leading}
 use Rattle.fields.specs.Fields.{number, choice, whole, limited}
 use Rattle.fields.specs.Places.{checkAt, valueAt}
-use Rattle.fields.specs.declared.Refusal.{Refusal}
-use Rattle.fields.specs.declared.Checked.the-variants.{Good, Refused}
 use Rattle.fields.proofs.Lawful.{Lawful}
 use Rattle.fields.proofs.LawfulFields.{lawful-number, lawful-choice}
-use Rattle.fields.proofs.Chains.{mapped-same, many-none, many-bad, many-more}
+use Rattle.fields.proofs.Chains.{mapped-same}
 use Rattle.fields.proofs.Reading.{then-value, number-value, number-place}
 use Rattle.catalog.specs.Catalog.{nodeFields, node, typeFields, typeDef, counts, countsOf, tagsAndTypes, catalog}
 

@@ -1,11 +1,10 @@
 -- Refusal 6: names that are alike. Names are told by their places in the file, so that the refusal can say which one it is.
 -- Assumes nothing: these are definitions.
 use Prim.Native.Nat.{ℕ}
-use mathlib.Core.Bool.{Bool, true, false, cond}
+use mathlib.Core.Bool.{Bool, cond}
 use mathlib.Core.List.{List, [], _∷_}
-use lib.ListN.{length, drop}
 use Rattle.fields.specs.Text.{Text, same, alike}
-use Rattle.fields.specs.Format.{Verdict, fine, bad, first, Format}
+use Rattle.fields.specs.Format.{Verdict, fine, bad, first}
 use Rattle.fields.specs.Fields.{number}
 use Rattle.fields.specs.Places.{valueAt, placeAt, placesFrom}
 use Rattle.fields.specs.declared.Refusal.the-variants.{NamesAlike}

@@ -1,10 +1,10 @@
 -- Searching lists: the first that passes, whether any or all pass; and values that may be missing.
 -- Assumes nothing: these are definitions.
-use mathlib.Core.Bool.{Bool, true, false, cond, not, _&&_, _||_}
+use mathlib.Core.Bool.{Bool, true, false, cond}
 use mathlib.Core.List.{List, [], _∷_}
 use mathlib.Core.Option.{Option, none, some}
 use Rattle.fields.specs.Text.{Text, same}
-use Rattle.catalog.specs.Catalog.{Node, TypeDef, Catalog}
+use Rattle.catalog.specs.Catalog.{TypeDef, Catalog}
 use Rattle.catalog.specs.declared.Kind.{Kind}
 use Rattle.catalog.specs.declared.Kind.the-variants.{Atomic, Struct, String}
 use Rattle.catalog.specs.declared.Aoi.{Aoi}

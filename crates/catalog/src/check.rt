@@ -9,7 +9,7 @@ use fields::check::check_text;
 use fields::number::number_at;
 use fields::number::past;
 ghost use mathlib.Core.Path.{_≡_};
-ghost use Prim.Native.Nat.{_+_, _-_, _*_, _≤_, _<_};
+ghost use Prim.Native.Nat.{_-_, _<_};
 ghost use lib.ListN.{length};
 ghost use Rattle.fields.specs.Format.{many};
 ghost use Rattle.fields.specs.Fields.{number, optional};

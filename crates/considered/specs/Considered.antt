@@ -2,7 +2,7 @@
 -- Assumes nothing: these are definitions.
 use Prim.Native.Nat.{ℕ}
 use mathlib.Core.Bool.{Bool, true, false, cond, _&&_}
-use mathlib.Core.List.{List, [], _∷_, map}
+use mathlib.Core.List.{List, []}
 use lib.ListN.{length}
 use Rattle.fields.specs.Format.{Verdict, fine, bad}
 use Rattle.catalog.specs.Catalog.{catalogOf}

@@ -1,6 +1,6 @@
 -- 01's table "What is sent back": the number of each cause, and what is returned with it.
 -- Assumes nothing: these are definitions.
-use Prim.Native.Nat.{ℕ, _+_, _*_, _^_}
+use Prim.Native.Nat.{ℕ}
 use Rattle.fields.specs.declared.Refusal.{Refusal}
 use Rattle.fields.specs.declared.Refusal.the-variants.{FileTooLong, BadVersion, OutOfFile, NotAllowed, OverLimit, NamesAlike, TypesTooDeep, IndexTooLarge, OutputTooShort, TooManyLevels, CountsDiffer}
 

@@ -12,7 +12,7 @@ use crate::number::raw;
 use crate::number::wide;
 use crate::text::is_printable;
 ghost use mathlib.Core.Path.{_≡_};
-ghost use Prim.Native.Nat.{_+_, _-_, _*_, _≤_, _<_};
+ghost use Prim.Native.Nat.{_+_, _-_, _≤_, _<_};
 ghost use lib.ListN.{length, take, drop};
 ghost use Rattle.fields.specs.Fields.{number, choice, text, textPast, textBytes, opensIndex, digitsAbove, indexCheck, indexedText};
 ghost use Rattle.fields.specs.Files.{openingCheck, endingCheck};

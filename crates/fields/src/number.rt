@@ -1,7 +1,7 @@
-// Big-endian numbers of one, two, four and eight bytes at a place.
+// Big-endian numbers of one, two, four and eight bytes at a place, and the smaller and the larger of two.
 use crate::Width;
 ghost use mathlib.Core.Path.{_≡_};
-ghost use Prim.Native.Nat.{_+_, _-_, _*_, _≤_, _<_};
+ghost use Prim.Native.Nat.{_+_, _-_, _*_, _≤_, _<_, min, max};
 ghost use lib.ListN.{length, take, drop};
 ghost use Rattle.fields.specs.Fields.{whole, limited};
 ghost use Rattle.fields.specs.Places.{bytesOf};
@@ -61,4 +61,24 @@ pub fn number_at(s: &[u8], at: usize, w: Width, max: usize) -> usize
         return 0;
     }
     n
+}
+
+// The smaller of two numbers.
+pub fn smaller(a: u32, b: u32) -> u32
+    ensures { λ r. ⌜ r ≡ min a b ⌝ }
+{
+    if a < b {
+        return a;
+    }
+    b
+}
+
+// The larger of two numbers.
+pub fn larger(a: u32, b: u32) -> u32
+    ensures { λ r. ⌜ r ≡ max a b ⌝ }
+{
+    if a < b {
+        return b;
+    }
+    a
 }

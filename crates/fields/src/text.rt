@@ -1,7 +1,6 @@
 // Texts compared: byte for byte, with ASCII case ignored, and by byte order.
 ghost use mathlib.Core.Path.{_≡_};
 ghost use Prim.Native.Nat.{_+_};
-ghost use lib.ListN.{drop};
 ghost use Rattle.fields.specs.Text.{between, printable, lower, same, alike, earlier};
 
 // From lo to hi, both included.

@@ -1,8 +1,7 @@
 // Bytes and numbers written at a place of a lent buffer. Where they do not fit, nothing is written.
 use crate::Width;
 ghost use mathlib.Core.Path.{_≡_};
-ghost use Prim.Native.Nat.{_+_, _*_, _%_, _^_, _≤_};
-ghost use lib.ListN.{length};
+ghost use Prim.Native.Nat.{_+_, _%_, _^_};
 ghost use Rattle.fields.specs.Fields.{digits};
 ghost use Rattle.fields.specs.Places.{bytesOf};
 ghost use Rattle.fields.specs.Writing.{patch};

@@ -2,7 +2,7 @@
 -- Texts end at the same places whatever their limits are, so one walk serves the three rows of names.
 -- Assumes nothing.
 use Prim.Native.Nat.{ℕ, zero, suc, _+_, _-_, _^_, _≤_, _<_}
-use mathlib.Core.Path.{_≡_, refl, sym, ap, ap₂, _∙_}
+use mathlib.Core.Path.{_≡_, refl, sym, ap, _∙_}
 use mathlib.Core.List.{List, _∷_}
 use native.Mathlib.Omega.{arith}
 use lib.ListN.{length, take, drop, getD}
@@ -15,7 +15,7 @@ use Rattle.fields.specs.Places.{valueAt, placeAt, placesFrom, textPart}
 use Rattle.fields.specs.declared.Part.{Part}
 use Rattle.fields.proofs.Lawful.{Lawful}
 use Rattle.fields.proofs.LawfulFields.{lawful-number, lawful-text}
-use Rattle.fields.proofs.Reading.{then-value, leading-value, leading-place, many-place-none, many-place-more, number-value, number-place, text-place, indexed-text-place}
+use Rattle.fields.proofs.Reading.{then-value, leading-value, many-place-none, many-place-more, number-value, number-place, text-place, indexed-text-place}
 use Rattle.fields.proofs.Rows.{values-length, counted-place}
 use Rattle.lists.specs.Lists.{tag, tags, together, noGroup, fromTogether, names, listFields, tagList, listOf}
 use Rattle.lists.specs.Access.{budgetPlace, noGroupPlace, togetherPlace, tagsPlace, nthPart}

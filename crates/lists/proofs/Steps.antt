@@ -1,15 +1,11 @@
 -- Fields of one kind in a row are checked by a loop: what is left gives what the whole gives, with one law for each way through it.
 -- The check of a list is that of its fields in a row.
 -- Assumes nothing.
-use Prim.Native.Nat.{ℕ, _-_, _≤_, _<_}
-use mathlib.Core.Path.{_≡_, sym, _∙_}
+use Prim.Native.Nat.{ℕ, _-_}
+use mathlib.Core.Path.{_≡_}
 use mathlib.Core.List.{List}
-use Rattle.fields.specs.Format.{Format, many}
 use Rattle.fields.specs.Places.{checkAt}
-use Rattle.fields.specs.declared.Refusal.{Refusal}
-use Rattle.fields.specs.declared.Checked.the-variants.{Good, Refused}
-use Rattle.fields.proofs.Lawful.{Lawful}
-use Rattle.fields.proofs.Chains.{mapped-same, many-none, many-bad, many-more}
+use Rattle.fields.proofs.Chains.{mapped-same}
 use Rattle.lists.specs.Lists.{listFields, tagList}
 
 -- ---- a list is checked as its fields are

@@ -1,10 +1,8 @@
 -- A name among a few fixed ones, compared one by one, and the bytes of the type that it names.
 -- Assumes nothing.
-use Prim.Native.Nat.{ℕ}
-use mathlib.Core.Path.{_≡_, refl, sym, ap, _∙_}
+use mathlib.Core.Path.{_≡_, refl}
 use mathlib.Core.Bool.{Bool, true, false, cond}
 use mathlib.Core.List.{List, [], _∷_}
-use mathlib.Core.Option.{none, some}
 use Rattle.fields.specs.Text.{Text, same}
 use Rattle.catalog.specs.Finding.{any}
 use Rattle.lookup.specs.Atomic.{oneByte, twoBytes, fourBytes, eightBytes, atomicSize}

@@ -1,7 +1,7 @@
 -- The bytes of atomic types (plc.rs `atomic_size`). Names match exactly.
 -- Assumes nothing: these are definitions.
 use Prim.Native.Nat.{ℕ}
-use mathlib.Core.Bool.{Bool, cond}
+use mathlib.Core.Bool.{cond}
 use mathlib.Core.List.{List, [], _∷_}
 use mathlib.Core.Option.{Option, none, some}
 use Rattle.fields.specs.Text.{Text, bytes, same}

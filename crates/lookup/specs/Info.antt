@@ -1,7 +1,7 @@
 -- Tags and members by their full names (01, "Catalog lookup"; plc.rs `tag`, `info`, `struct_size`).
 -- Assumes nothing: these are definitions.
 use Prim.Native.Nat.{ℕ}
-use mathlib.Core.Bool.{Bool, cond}
+use mathlib.Core.Bool.{cond}
 use mathlib.Core.List.{List, [], _∷_, _++_}
 use mathlib.Core.Option.{Option, none, some}
 use lib.Dec.{eqb, leb, ltb}

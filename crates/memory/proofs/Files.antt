@@ -10,7 +10,6 @@ use mathlib.Core.Option.{Option, none, some, Option·map}
 use Rattle.fields.specs.Format.{fine, first, given, All, _then_, leading, mapped, many, held}
 use Rattle.fields.specs.Fields.{number, numeric, counted, optional}
 use Rattle.fields.specs.Files.{endingCheck, fieldsCheck}
-use Rattle.fields.specs.Places.{part}
 use Rattle.fields.proofs.Lists.{Bytes}
 use Rattle.fields.proofs.Lawful.{first-fine}
 use Rattle.catalog.specs.Catalog.{Catalog}

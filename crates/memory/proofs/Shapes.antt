@@ -1,8 +1,7 @@
 -- What a node asks of its value, clause by clause of document 01's "Fitting", computed by the definitions; and values that do not fit.
 -- Assumes nothing.
-use Prim.Native.Nat.{ℕ, _*_}
+use Prim.Native.Nat.{ℕ}
 use mathlib.Core.Path.{_≡_, refl}
-use mathlib.Core.Bool.{Bool, true, false}
 use mathlib.Core.List.{List, [], _∷_, map}
 use mathlib.Core.Option.{none, some}
 use native.Mathlib.Omega.{arith}
@@ -14,10 +13,10 @@ use Rattle.catalog.specs.declared.Kind.{Kind}
 use Rattle.catalog.specs.declared.Kind.the-variants.{Atomic, Struct, String}
 use Rattle.catalog.specs.declared.Aoi.the-variants.{No}
 use Rattle.lookup.specs.Atomic.{atomicSize}
-use Rattle.values.specs.Value.{Value, leaf, array, struct, Items, noItem, noMember, nth}
-use Rattle.values.specs.Value.{text as string, item as oneItem, member as oneMember}
+use Rattle.values.specs.Value.{Value, leaf, array, struct, noItem, noMember, nth}
+use Rattle.values.specs.Value.{text as string, item as oneItem}
 use Rattle.values.specs.File.{itemCount}
-use Rattle.memory.specs.Fitting.{Shape, anyValue, leafOf, stringShape, structOf, itemsOf, bitsOf, someBits, sided, atomicShape, structShape, singleShape, rowShape, sidesShape, shapeOf, Fits, fitsLeaf, fitsString, fitsStruct, fitsItems, fitsBits, fitsSomeBits, FitsMembers, fitsMember}
+use Rattle.memory.specs.Fitting.{Shape, anyValue, leafOf, stringShape, structOf, itemsOf, bitsOf, someBits, sided, atomicShape, structShape, singleShape, rowShape, sidesShape, shapeOf, Fits, fitsLeaf, fitsStruct, fitsItems, FitsMembers}
 use Rattle.memory.specs.Reading.{itemOf, itemAlong}
 
 -- opens the definitions

@@ -1,6 +1,6 @@
 -- Which values, memories and tags fit a catalog (01, "Fitting"). Each definition below stands for a clause of that paragraph.
 -- Assumes nothing: these are definitions.
-use Prim.Native.Nat.{ℕ, zero, suc, _*_}
+use Prim.Native.Nat.{ℕ, _*_}
 use mathlib.Core.Bool.{Bool, true, false, cond}
 use mathlib.Core.Path.{_≡_}
 use mathlib.Core.List.{List, [], _∷_}

@@ -1,10 +1,12 @@
 // Which reads a group covers, and what they come to.
+use fields::number::larger;
+use fields::number::smaller;
 use packing::Cost;
 use packing::count::start;
 use packing::count::step;
 ghost use mathlib.Core.Path.{_≡_};
 ghost use mathlib.Core.List.{map};
-ghost use Prim.Native.Nat.{_≤_, min, max};
+ghost use Prim.Native.Nat.{_≤_};
 ghost use lib.ListN.{take, drop, getD};
 ghost use Rattle.fields.specs.Fields.{limited};
 ghost use Rattle.fields.specs.Places.{part};
@@ -120,26 +122,6 @@ pub fn total_reply(replies: &[u64; 256], count: usize, covered: &[u8; 256]) -> u
         i += 1;
     }
     n
-}
-
-// The smaller of two numbers.
-fn smaller(a: u32, b: u32) -> u32
-    ensures { λ r. ⌜ r ≡ min a b ⌝ }
-{
-    if a < b {
-        return a;
-    }
-    b
-}
-
-// The larger of two numbers.
-fn larger(a: u32, b: u32) -> u32
-    ensures { λ r. ⌜ r ≡ max a b ⌝ }
-{
-    if a < b {
-        return b;
-    }
-    a
 }
 
 // An extent with a number more; where the least is over the greatest there is none in it yet.

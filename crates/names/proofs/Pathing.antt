@@ -13,7 +13,7 @@ use Rattle.fields.specs.Format.{All}
 use Rattle.fields.proofs.Lists.{all-append, all-weaken}
 use Rattle.fields.proofs.Scans.{Passes, Ends, passes-other}
 use Rattle.names.specs.Pieces.{joined, parts, isNot}
-use Rattle.names.specs.Name.{Key, member, item, several, Token, isLetter, isNameByte, isName, indexKey, programLength, textOf, spelling, bracket}
+use Rattle.names.specs.Name.{Key, member, item, several, Token, isLetter, isNameByte, isName, indexKey, programLength, textOf, spelling}
 use Rattle.names.specs.Strip.{stripFrom, stripped}
 use Rattle.names.proofs.Tokens.{name-bytes, indexes-inside, Form, dot, indexes, form-of}
 use Rattle.names.proofs.Stripping.{OpensNone, stripped-over, stripped-bracket}

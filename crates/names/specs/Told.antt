@@ -10,7 +10,6 @@ use Rattle.names.specs.Name.{Key, Token, Piece, reads, stopsAt, Reading,
 use Rattle.names.specs.Range.{Range}
 use Rattle.names.specs.Steps.{indexesIn, firstStep}
 use Rattle.names.specs.Listing.{longestName, layToken, layTokens, tokenListing}
-use Rattle.names.specs.declared.Step.{Step}
 use Rattle.names.specs.declared.Step.the-variants.{Token as AToken}
 use Rattle.names.specs.declared.Ranged.{Ranged}
 use Rattle.names.specs.declared.Ranged.the-variants.{Of, Plain}

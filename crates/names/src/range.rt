@@ -3,8 +3,7 @@ use crate::Ranged;
 use fields::Numeral;
 use fields::decimal::read_numeral;
 ghost use mathlib.Core.Path.{_≡_};
-ghost use Prim.Native.Nat.{_+_, _≤_};
-ghost use lib.ListN.{length, take, drop};
+ghost use Prim.Native.Nat.{_+_};
 ghost use Rattle.names.specs.Range.{rangeAt, rangeOf};
 ghost use Rattle.names.specs.Told.{rangeTold};
 

@@ -3,10 +3,10 @@ use fields::Refusal;
 use fields::Written;
 ghost use mathlib.Core.Path.{_≡_};
 ghost use Prim.Native.Nat.{_+_, _≤_};
-ghost use lib.ListN.{length, drop};
+ghost use lib.ListN.{length};
 ghost use Rattle.fields.specs.Format.{fine};
 ghost use Rattle.fields.specs.Writing.{writing, buffer};
-ghost use Rattle.names.specs.Strip.{skipping, isKept, stripFrom, stripped};
+ghost use Rattle.names.specs.Strip.{skipping, isKept, stripped};
 
 // The byte that will end what is being left out, 0 outside.
 fn skips(k: u8, b: u8) -> u8

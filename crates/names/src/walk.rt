@@ -6,10 +6,10 @@ use crate::token::name_length;
 use crate::token::place_of;
 use fields::text::equal_ignoring_case;
 ghost use mathlib.Core.Path.{_≡_};
-ghost use Prim.Native.Nat.{_+_, _≤_};
-ghost use lib.ListN.{length, take, drop};
-ghost use Rattle.names.specs.Name.{startsToken, laterToken, dotted, bracketed, programLength};
-ghost use Rattle.names.specs.Steps.{isPieceByte, pieceTold, pieceEnd, stepAt, baseAt, firstStep};
+ghost use Prim.Native.Nat.{_+_};
+ghost use lib.ListN.{length, take};
+ghost use Rattle.names.specs.Name.{startsToken, dotted, bracketed, programLength};
+ghost use Rattle.names.specs.Steps.{pieceTold, pieceEnd, stepAt, firstStep};
 
 // A byte that starts a token behind the first one.
 fn starts_token(b: u8) -> bool

@@ -1,17 +1,16 @@
 -- The end of a field is told by the ends of its parts, here for the fields of a catalog file.
 -- Counts, flags and lengths are met as the readers of numbers and texts answer them.
 -- Assumes nothing.
-use Prim.Native.Nat.{ℕ, _+_, _-_, _^_, _≤_, _<_}
+use Prim.Native.Nat.{ℕ, _+_, _-_, _≤_, _<_}
 use mathlib.Core.Path.{_≡_, sym, ap, ap₂, _∙_}
 use mathlib.Core.List.{List}
 use native.Mathlib.Omega.{arith}
 use lib.ListN.{length, take, drop}
-use Rattle.fields.specs.Format.{Format, _then_, many, held, flagOf}
-use Rattle.fields.specs.Fields.{number, choice, whole, limited, textPast, counted, optional}
+use Rattle.fields.specs.Format.{Format, _then_, many}
+use Rattle.fields.specs.Fields.{number, choice, whole, limited, textPast, optional}
 use Rattle.fields.specs.Places.{valueAt, placeAt}
-use Rattle.fields.proofs.Lawful.{Lawful}
-use Rattle.fields.proofs.LawfulFields.{lawful-number, lawful-choice}
-use Rattle.fields.proofs.Reading.{then-value, then-place, leading-value, leading-place, mapped-place, many-place-more, held-place-none, held-place-some, number-value, number-place, choice-value, choice-place, text-place}
+use Rattle.fields.proofs.LawfulFields.{lawful-number}
+use Rattle.fields.proofs.Reading.{then-value, then-place, mapped-place, held-place-none, held-place-some, number-value, number-place, choice-place, text-place}
 use Rattle.fields.proofs.Rows.{counted-place, optional-place}
 use Rattle.catalog.specs.Catalog.{kindOf, kindByte, aoiOf, aoiByte, name, kind, aoi, dims, id, size, fromId, fromKind, nodeFields, node, members, fromAoi, typeFields, typeDef, counts}
 use Rattle.catalog.specs.Alike.{typesStart, membersCount}

@@ -3,17 +3,17 @@
 -- Assumes nothing.
 use Prim.Native.Nat.{ℕ, zero, suc, _+_, _-_, _≤_, _<_}
 use mathlib.Core.Path.{_≡_, refl, sym, ap, _∙_}
-use mathlib.Core.List.{List, [], _∷_}
+use mathlib.Core.List.{List, _∷_}
 use native.Mathlib.Omega.{arith}
 use lib.ListN.{length, take, drop, getD}
 use lib.Dec.{eqb}
 use Rattle.fields.specs.Text.{Text, same}
-use Rattle.fields.specs.Format.{Format, _then_, mapped, many}
+use Rattle.fields.specs.Format.{_then_, mapped, many}
 use Rattle.fields.specs.Fields.{number, choice, whole, limited, textOf, textPast}
 use Rattle.fields.specs.Files.{fileOf}
-use Rattle.fields.specs.Places.{valueAt, placeAt, part, placesFrom}
-use Rattle.fields.proofs.Lawful.{Lawful, lawful-many, many-length}
-use Rattle.fields.proofs.Reading.{then-value, leading-value, mapped-value, many-value-more, text-value, number-value, choice-value}
+use Rattle.fields.specs.Places.{valueAt, placeAt, part}
+use Rattle.fields.proofs.Lawful.{lawful-many}
+use Rattle.fields.proofs.Reading.{then-value, leading-value, mapped-value, text-value, number-value, choice-value}
 use Rattle.catalog.specs.Catalog.{Node, TypeDef, kindOf, kindByte, aoiOf, aoiByte, name, kind, aoi, dims, fromId, fromKind, nodeFields, node, members, fromAoi, typeFields, typeDef, counts, countsOf, tagsAndTypes, catalog, catalogOf}
 use Rattle.catalog.specs.Finding.{isStruct, isParts, isTyped}
 use Rattle.fields.proofs.Rows.{values-from, values-length, places-length, counted-value}

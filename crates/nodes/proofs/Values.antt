@@ -11,7 +11,7 @@ use lib.ListN.{length, take, drop, set, length-set, take-append-drop}
 use lib.Seq.{take-suc-set, drop-set-lt, drop-drop, length-take-le, take-append-seam}
 use Rattle.fields.proofs.Rows.{counted-value, counted-place, optional-value, many-place-step}
 use Rattle.fields.specs.Format.{_then_, many}
-use Rattle.fields.specs.Fields.{number, choice, whole, limited, textOf, textPast, optional}
+use Rattle.fields.specs.Fields.{number, choice, whole, limited, textPast, optional}
 use Rattle.fields.specs.Places.{valueAt, placeAt, textPart}
 use Rattle.fields.specs.Writing.{answered}
 use Rattle.fields.specs.declared.Part.{Part}

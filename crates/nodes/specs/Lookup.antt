@@ -1,6 +1,5 @@
 -- Tags and members by name (01, `info`: "Exact spelling first, then ASCII case ignored").
 -- Assumes nothing: these are definitions.
-use Prim.Native.Nat.{ℕ}
 use mathlib.Core.Bool.{Bool}
 use mathlib.Core.List.{List}
 use mathlib.Core.Option.{Option}

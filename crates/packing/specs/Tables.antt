@@ -1,7 +1,7 @@
 -- Size tables given by themselves, and what is refused of them (01, "Groups and packets"; table: 5, 11).
 -- Assumes nothing: these are definitions.
 use Prim.Native.Nat.{ℕ, _+_, _^_}
-use mathlib.Core.Bool.{Bool, cond}
+use mathlib.Core.Bool.{cond}
 use mathlib.Core.List.{List, [], _∷_}
 use lib.Dec.{ltb}
 use lib.ListN.{length}

@@ -1,7 +1,6 @@
 // Reads packed into packets: planner.rs `pack`, `chunks` and `packets`, over lent tables of sizes. A packet holds some bytes before
 // any read is in it; reads fill groups in order, and one that no packet holds beside another goes alone, in several packets.
 use fields::Refusal;
-ghost use mathlib.Core.Path.{_≡_};
 
 pub mod chunk;
 pub mod count;

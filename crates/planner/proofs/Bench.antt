@@ -13,7 +13,7 @@ use Rattle.names.specs.Name.{tokensOf}
 use Rattle.sizes.specs.Sizes.{Size, requestSize, readSize}
 use Rattle.packing.specs.Packing.{standard, packets}
 use Rattle.lists.specs.Lists.{TagList}
-use Rattle.plans.specs.Plans.{Step, named, indexed, Member, Read}
+use Rattle.plans.specs.Plans.{Step, named, indexed, Read}
 use Rattle.planner.specs.Plan.{planOf}
 use Rattle.planner.proofs.Computing.{computing}
 

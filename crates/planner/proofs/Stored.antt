@@ -13,7 +13,7 @@ use Rattle.catalog.specs.declared.Aoi.{Aoi}
 use Rattle.catalog.specs.declared.Aoi.the-variants.{No, Whole, Parts}
 use Rattle.packing.specs.Packing.{standard}
 use Rattle.lists.specs.Lists.{TagList}
-use Rattle.plans.specs.Plans.{Step, named, indexed, firstOf, Member, Read}
+use Rattle.plans.specs.Plans.{Step, named, indexed, Member, Read}
 use Rattle.planner.specs.Plan.{planOf}
 use Rattle.planner.proofs.Computing.{computing}
 

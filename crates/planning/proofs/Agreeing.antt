@@ -22,13 +22,13 @@ use Rattle.planner.specs.Tags.{Above, Tag, tagsOf}
 use Rattle.planner.specs.Candidates.{isNear, clustersOf}
 use Rattle.planner.specs.Plan.{givenOf}
 use Rattle.planner.proofs.Each.{each-of, each-keep, each-map}
-use Rattle.candidates.specs.Columns.{Bunch, Elements, rowKey, isKeyed, firstRows, hasTwoNames, bunchOf, wholesIn, positions, arrayKey, sameArray, isPiece, isFirstPiece, lastPieces, indexesIn, isInRun, bunchesFrom, arrayRuns, runsIn, bunchName}
+use Rattle.candidates.specs.Columns.{Elements, rowKey, isKeyed, firstRows, hasTwoNames, bunchOf, wholesIn, positions, arrayKey, sameArray, isPiece, isFirstPiece, lastPieces, indexesIn, isInRun, bunchesFrom, arrayRuns, runsIn}
 use Rattle.candidates.proofs.Kept.{keep-agree, map-agree}
 use Rattle.candidates.proofs.Told.{Listing, tags-length}
 use Rattle.planning.specs.Tables.{namesIn}
 use Rattle.planning.specs.Stages.{firstsIn, structsIn, runsAmong}
 use Rattle.planning.proofs.Tagged.{listing}
-use Rattle.planning.proofs.Soundness.{Below, each-first, each-position, each-lastly}
+use Rattle.planning.proofs.Soundness.{each-first, each-position, each-lastly}
 
 -- ---- tests that agree
 

@@ -2,9 +2,9 @@
 -- Assumes nothing.
 use Prim.Native.Nat.{ℕ, _+_, _-_, _≤_, _<_}
 use native.Mathlib.Omega.{arith}
-use mathlib.Core.Path.{_≡_, refl, ap}
+use mathlib.Core.Path.{_≡_, ap}
 use mathlib.Core.List.{List}
-use lib.ListN.{length, take, drop, getD, length-take, length-drop}
+use lib.ListN.{length, drop, getD, length-take, length-drop}
 use borrow.Author.Tests.{eq-eqb, ne-eqb}
 use Rattle.fields.specs.Text.{Text}
 use Rattle.fields.specs.Places.{part}

@@ -33,9 +33,9 @@ use Rattle.candidates.specs.Columns.{Bunch, bunchName}
 use Rattle.pending.specs.declared.Pending.{Pending as Row}
 use Rattle.planning.specs.Tables.{namesIn, bunchAt, groupBy, lensIn, kindsIn}
 use Rattle.planning.specs.Writing.{Worded, Final, Telling}
-use Rattle.planning.specs.Put.{Columns, columnsOf, toldBytes, ToldFit, Laid, rowLaid, laidBy, readsBytes, planBytes}
+use Rattle.planning.specs.Put.{Columns, columnsOf, ToldFit, Laid, laidBy, readsBytes, planBytes}
 use Rattle.planning.proofs.Tabled.{map-front}
-use Rattle.planning.proofs.Told.{Known, laidAs, ReadTold, read-told}
+use Rattle.planning.proofs.Told.{Known, ReadTold, read-told}
 
 -- a read that can be written
 abbrev pub Fit : Columns → Laid → Type 0

@@ -1,7 +1,7 @@
 -- The groups that the columns tell after the structs and after the runs are those of the planning. No more positions lie under all structs
 -- than there are rows, so there is room for the runs.
 -- Assumes nothing.
-use Prim.Native.Nat.{ℕ, zero, suc, _+_, _-_, _≤_, _<_}
+use Prim.Native.Nat.{ℕ, _+_, _-_, _≤_}
 use native.Mathlib.Omega.{arith}
 use mathlib.Core.Path.{_≡_, refl, sym, ap, ap₂, _∙_}
 use mathlib.Core.Bool.{Bool, true, false, not}
@@ -9,14 +9,12 @@ use mathlib.Core.List.{List, [], _∷_, _++_, map, map-map}
 use lib.ListN.{length, take, getD, length-append, length-map, replicate}
 use lib.Seq.{getD-take}
 use borrow.Author.Tests.{le-leb, ne-eqb}
-use Rattle.fields.specs.Format.{All}
 use Rattle.fields.specs.Text.{Text, same}
 use Rattle.fields.specs.Writing.{patch, answered}
 use Rattle.fields.proofs.Lists.{all-weaken}
 use Rattle.fields.proofs.Patches.{length-answered}
 use Rattle.names.specs.Pieces.{joined}
 use Rattle.catalog.specs.Catalog.{catalogOf}
-use Rattle.sizes.specs.Sizes.{requestSize}
 use Rattle.packing.specs.Packing.{standard}
 use Rattle.lists.specs.Lists.{listOf}
 use Rattle.planner.specs.Lists.{keep, sum}
@@ -30,7 +28,7 @@ use Rattle.candidates.proofs.Sharing.{length-joined, Apart, key-shares, apart-k
 use Rattle.candidates.proofs.Spreading.{few-groups, few-served}
 use Rattle.planning.specs.Tables.{namesIn}
 use Rattle.planning.specs.Choosing.{servedFrom}
-use Rattle.planning.specs.Stages.{firstsIn, structsIn, runsAmong, bunchesIn, planningOf, Accepted, Viewed, Pieced, Rowed, Wholes, Bunched}
+use Rattle.planning.specs.Stages.{firstsIn, structsIn, runsAmong, planningOf, Viewed, Pieced, Rowed, Wholes, Bunched}
 use Rattle.planning.proofs.Tagged.{few-tags}
 use Rattle.planning.proofs.Agreeing.{structs-agree, runs-agree}
 use Rattle.planning.proofs.Answered.{take-answered}

@@ -1,7 +1,7 @@
 -- What `plan` promises, once the plan file is written: the bytes that were put into the buffer read back as the plan of the list, so they
 -- serve what the list has, and demand 3 holds of them. A refusal promises nothing but its number and that the buffer stays.
 -- Assumes nothing.
-use Prim.Native.Nat.{ℕ, _+_, _≤_, _<_}
+use Prim.Native.Nat.{ℕ, _≤_, _<_}
 use mathlib.Core.Path.{_≡_, sym, ap, subst, _∙_}
 use mathlib.Core.List.{List, []}
 use native.Mathlib.Omega.{arith}

@@ -5,7 +5,7 @@ use native.Mathlib.Omega.{arith}
 use mathlib.Core.Path.{_≡_, sym, ap, subst, _∙_}
 use mathlib.Core.List.{List, [], _∷_, _++_, append-nil}
 use lib.ListN.{length, take, drop, length-append, take-append-drop}
-use lib.Seq.{take-append-seam, drop-length}
+use lib.Seq.{drop-length}
 use Rattle.fields.specs.Writing.{patch, answered}
 use Rattle.fields.proofs.Patches.{patch-fits, patch-patch}
 use Rattle.fields.proofs.Filling.{Filling, filling-room, filling-next, filling-end}

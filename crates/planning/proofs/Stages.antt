@@ -8,7 +8,6 @@ use mathlib.Core.List.{List, [], _∷_, _++_, map}
 use lib.ListN.{length, take, drop, length-append, length-map, length-take, replicate}
 use lib.Seq.{take-append-seam, drop-append-seam}
 use Rattle.fields.specs.Format.{All}
-use Rattle.fields.specs.Writing.{answered}
 use Rattle.fields.proofs.Lists.{all-weaken}
 use Rattle.catalog.specs.Catalog.{Catalog, catalogOf}
 use Rattle.sizes.specs.Sizes.{Size, readSize}
@@ -18,10 +17,9 @@ use Rattle.packing.specs.Tables.{sizesOf}
 use Rattle.packing.specs.Told.{started, stepsOf}
 use Rattle.packing.proofs.Counting.{Low, steps-low}
 use Rattle.lists.specs.Lists.{listOf}
-use Rattle.plans.specs.Plans.{layout}
 use Rattle.planner.specs.Lists.{keep}
 use Rattle.planner.specs.Merging.{Pending, Given, packetsOf, rounds, boundTogether}
-use Rattle.planner.specs.Plan.{plainReads, togetherGroups, candidates, startReads, finalReads, givenOf, planOf}
+use Rattle.planner.specs.Plan.{plainReads, togetherGroups, candidates, startReads, finalReads, givenOf}
 use Rattle.planner.proofs.Each.{each-map}
 use Rattle.planner.proofs.Writable.{plan-writable}
 use Rattle.candidates.specs.Columns.{Bunch, Elements, positions, bunchName, groupOf}

@@ -23,7 +23,7 @@ use Rattle.pending.specs.Table.{groupOf, countOf, requestOf, replyOf, blank, gr
 use Rattle.planning.specs.declared.Offer.{Offer}
 use Rattle.planning.specs.Tables.{lensIn, kindsIn, requestsIn, repliesIn}
 use Rattle.planning.specs.Merges.{Modest, Applied, Offered, NextTold}
-use Rattle.planning.specs.Choosing.{namePart, RowNamed, RowsNamed, RenamedBy}
+use Rattle.planning.specs.Choosing.{namePart, RowNamed, RenamedBy}
 use Rattle.planning.specs.Turns.{FlagTold}
 use Rattle.planning.proofs.Flagging.{closed-front, map-closed, all-closed}
 use Rattle.planning.proofs.Applying.{applied-over, applied}

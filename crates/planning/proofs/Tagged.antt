@@ -1,26 +1,22 @@
 -- The tags of a planning by their positions: the columns of names and of first spellings are as the laws of the groups ask, there are at
 -- most 256 tags, and each is inside the limits of a listed tag.
 -- Assumes nothing.
-use Prim.Native.Nat.{ℕ, _≤_, _<_}
+use Prim.Native.Nat.{_≤_}
 use native.Mathlib.Omega.{arith}
 use mathlib.Core.Path.{_≡_, refl}
-use mathlib.Core.Bool.{Bool}
-use mathlib.Core.List.{List, [], _++_}
+use mathlib.Core.List.{[]}
 use lib.ListN.{length}
 use Rattle.fields.specs.Format.{All, leading, many, mapped, _then_}
 use Rattle.fields.specs.Fields.{number, numeric, counted}
 use Rattle.catalog.specs.Catalog.{Catalog}
 use Rattle.packing.specs.declared.Cost.{Cost}
 use Rattle.lists.specs.Lists.{TagList, tagList, tag}
-use Rattle.planner.specs.Rows.{rowsFrom}
 use Rattle.planner.specs.Tags.{tagsOf}
-use Rattle.planner.specs.Merging.{Given, tagAt}
+use Rattle.planner.specs.Merging.{tagAt}
 use Rattle.planner.specs.Plan.{givenOf}
 use Rattle.planner.proofs.Serving.{text-at}
 use Rattle.planner.proofs.Listed.{Fair, fair-tags}
-use Rattle.candidates.specs.Columns.{Bunch, Elements, wholesIn, runsIn}
 use Rattle.candidates.proofs.Told.{Listing, EachAt, Told, tags-told, tags-length}
-use Rattle.candidates.proofs.RunsOf.{Lies}
 use Rattle.planning.specs.Tables.{namesIn}
 use Rattle.planning.specs.Stages.{firstsIn}
 

@@ -24,7 +24,6 @@ use Rattle.planner.specs.Lists.{least, greatest}
 use Rattle.planner.specs.Candidates.{whole, run}
 use Rattle.planner.specs.Merging.{Pending, Given, tagAt, indexAt, startOf, spanOf, elementName}
 use Rattle.planner.specs.Plan.{pathFrom, memberOf, written}
-use Rattle.planner.proofs.Each.{each-getD}
 use Rattle.planner.proofs.Shaped.{PlainRead, ShapedBy, Shaped}
 use Rattle.planner.proofs.Leads.{Leads, StructRead, IfStruct}
 use Rattle.planner.proofs.Runs.{InRun, RunRead, IfRun}

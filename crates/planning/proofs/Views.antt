@@ -4,27 +4,25 @@
 use Prim.Native.Nat.{ℕ, _≤_, _<_}
 use native.Mathlib.Omega.{arith}
 use mathlib.Core.Path.{_≡_, refl, sym, ap, ap₂, _∙_}
-use mathlib.Core.Bool.{Bool, true, false, _&&_}
+use mathlib.Core.Bool.{Bool, true, false}
 use mathlib.Core.List.{List, [], _∷_, _++_, map}
 use lib.Dec.{eqb, ltb}
 use lib.ListN.{length, take, drop, getD, length-map, List·getD-map, List·getD-eq-default}
 use borrow.Author.Tests.{ltb-true, ltb-false}
 use Rattle.fields.specs.Format.{fine, first}
-use Rattle.fields.specs.Text.{Text}
 use Rattle.fields.specs.Fields.{text, textOf}
 use Rattle.fields.specs.Places.{valueAt, part, textPart}
 use Rattle.fields.specs.Writing.{answered}
 use Rattle.fields.proofs.Lists.{Bytes, drop-past}
 use Rattle.fields.proofs.Lawful.{first-fine}
 use Rattle.fields.proofs.Checks.{part-text}
-use Rattle.catalog.specs.Catalog.{Catalog, fieldsVerdict, catalogOf}
+use Rattle.catalog.specs.Catalog.{fieldsVerdict, catalogOf}
 use Rattle.catalog.specs.Alike.{nameAt, alikeVerdict}
 use Rattle.catalog.specs.Nesting.{nestingVerdict}
 use Rattle.catalog.specs.Check.{catalogVerdict}
-use Rattle.types.specs.Whole.{isMarkable}
 use Rattle.structs.proofs.Accepted.{markable}
 use Rattle.packing.specs.Packing.{standard}
-use Rattle.lists.specs.Lists.{TagList, tagList, longestList, listOf, listVerdict, layout as listLayout}
+use Rattle.lists.specs.Lists.{listOf, listVerdict}
 use Rattle.lists.specs.Access.{tagPlaces}
 use Rattle.lists.proofs.Round.{list-accepted}
 use Rattle.lists.proofs.TagPlaces.{tag-places-length, tag-shown}
@@ -36,7 +34,7 @@ use Rattle.planner.specs.Merging.{Given, noTag, tagAt, indexAt}
 use Rattle.planner.specs.Plan.{givenOf}
 use Rattle.planner.proofs.Serving.{text-at}
 use Rattle.candidates.specs.Columns.{tagName, isOne, rowsIn, elementsIn}
-use Rattle.candidates.proofs.Told.{Listing, tags-length}
+use Rattle.candidates.proofs.Told.{tags-length}
 use Rattle.considered.specs.Considered.{isFine, isViewed, viewed, viewedPlaces, widthOf, indexOf, arrayOf, requestOf, replyOf, viewCount}
 use Rattle.considered.specs.declared.Considered.{Considered}
 use Rattle.planning.specs.Tables.{namesIn, Indexed, Named}

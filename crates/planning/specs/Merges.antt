@@ -1,15 +1,14 @@
 -- Merges as the code tells them: by the number of their group, and by numbers. What a function promises holds for every planning that its
 -- columns tell.
 -- Assumes nothing: these are definitions.
-use Prim.Native.Nat.{ℕ, zero, suc, _+_, _-_, _≤_, _<_}
+use Prim.Native.Nat.{ℕ, _+_, _-_, _≤_, _<_}
 use mathlib.Core.Path.{_≡_}
-use mathlib.Core.Bool.{Bool, true, false, cond, _&&_, _||_}
-use mathlib.Core.List.{List, [], _∷_, _++_, map}
+use mathlib.Core.Bool.{Bool, cond, _&&_, _||_}
+use mathlib.Core.List.{List, _++_, map}
 use mathlib.Core.Option.{Option, none, some}
 use lib.Dec.{eqb, leb}
 use lib.ListN.{length, take, drop}
-use Rattle.fields.specs.Text.{Text, lowered, alike}
-use Rattle.fields.specs.Decimal.{decimal}
+use Rattle.fields.specs.Text.{alike}
 use Rattle.names.specs.Pieces.{joined}
 use Rattle.names.specs.Name.{tokensOf}
 use Rattle.catalog.specs.Finding.{any}
@@ -20,10 +19,9 @@ use Rattle.packing.specs.declared.Cost.{Cost}
 use Rattle.packing.specs.Packing.{empty}
 use Rattle.lists.specs.Lists.{listOf}
 use Rattle.planner.specs.Lists.{keep}
-use Rattle.planner.specs.Tags.{Above}
 use Rattle.planner.specs.Serving.{once}
-use Rattle.planner.specs.Candidates.{Shape, whole, run, Group}
-use Rattle.planner.specs.Merging.{Pending, Given, Merged, startOf, spanOf, isCovered, merge, nextMerge, packetsOf, rounds, boundTogether}
+use Rattle.planner.specs.Candidates.{Group}
+use Rattle.planner.specs.Merging.{Pending, Given, Merged, startOf, spanOf, isCovered, merge, nextMerge, rounds, boundTogether}
 use Rattle.candidates.specs.Columns.{Bunch, groupOf, bunchName, positions}
 use Rattle.merging.specs.Columns.{flagged, largestSize}
 use Rattle.planning.specs.declared.Offer.{Offer}

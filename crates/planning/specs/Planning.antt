@@ -10,12 +10,11 @@ use Rattle.fields.specs.Format.{Verdict, fine, first}
 use Rattle.fields.proofs.Lists.{Bytes}
 use Rattle.fields.specs.declared.Written.{Written}
 use Rattle.fields.specs.declared.Written.the-variants.{Done, Refused}
-use Rattle.catalog.specs.Catalog.{Catalog, catalogOf}
+use Rattle.catalog.specs.Catalog.{catalogOf}
 use Rattle.catalog.specs.Check.{catalogVerdict}
 use Rattle.packing.specs.Packing.{standard}
 use Rattle.lists.specs.Lists.{listOf, listVerdict}
 use Rattle.plans.specs.Plans.{Read, Member, layout, readsOf}
-use Rattle.values.specs.Value.{Value}
 use Rattle.values.specs.File.{valueOf}
 use Rattle.values.specs.Alike.{valueVerdict}
 use Rattle.planner.specs.Plan.{planOf}

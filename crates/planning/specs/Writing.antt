@@ -9,9 +9,9 @@ use Rattle.fields.specs.Places.{part}
 use Rattle.fields.specs.Writing.{answered}
 use Rattle.packing.specs.declared.Cost.{Cost}
 use Rattle.catalog.specs.Catalog.{Catalog}
-use Rattle.lists.specs.Lists.{TagList, tagList, listOf, longestList, layout as listLayout}
+use Rattle.lists.specs.Lists.{TagList, tagList, longestList, layout as listLayout}
 use Rattle.plans.specs.Plans.{layout}
-use Rattle.planner.specs.Merging.{Pending, Given}
+use Rattle.planner.specs.Merging.{Given}
 use Rattle.planner.specs.Plan.{givenOf, finalReads, planOf}
 use Rattle.candidates.specs.Columns.{Bunch, bunchName}
 use Rattle.pending.specs.declared.Pending.{Pending as Row}

@@ -4,6 +4,8 @@ use fields::Numeral;
 use fields::Width;
 use fields::check::text_at;
 use fields::decimal::read_numeral;
+use fields::number::larger;
+use fields::number::smaller;
 use fields::write::put_bytes;
 use fields::write::put_number;
 use names::Step;
@@ -13,7 +15,7 @@ use plans::write::put_member;
 use plans::write::put_read;
 ghost use mathlib.Core.Path.{_≡_};
 ghost use mathlib.Core.List.{map};
-ghost use Prim.Native.Nat.{_+_, _-_, _≤_, _<_, min, max};
+ghost use Prim.Native.Nat.{_+_, _-_, _≤_, _<_};
 ghost use lib.ListN.{length};
 ghost use Rattle.fields.specs.Format.{All};
 ghost use Rattle.fields.specs.Places.{part};
@@ -191,26 +193,6 @@ fn write_run_members(
         k += 1;
     }
     at
-}
-
-// The smaller of two numbers.
-fn smaller(a: u32, b: u32) -> u32
-    ensures { λ r. ⌜ r ≡ min a b ⌝ }
-{
-    if a < b {
-        return a;
-    }
-    b
-}
-
-// The larger of two numbers.
-fn larger(a: u32, b: u32) -> u32
-    ensures { λ r. ⌜ r ≡ max a b ⌝ }
-{
-    if a < b {
-        return b;
-    }
-    a
 }
 
 // Where a run starts, and how many elements it spans.

@@ -1,18 +1,18 @@
 -- The reads of a plan file are those that stand at its places, and there are as many of both as the file says.
 -- What the writers put is the layout of a read and of a member.
 -- Assumes nothing.
-use Prim.Native.Nat.{ℕ, suc, _<_}
+use Prim.Native.Nat.{ℕ}
 use mathlib.Core.Path.{_≡_, refl, sym, ap, _∙_}
 use mathlib.Core.List.{List, [], _∷_, _++_, append-assoc}
 use mathlib.Core.Option.{none, some}
-use lib.ListN.{length, take, drop, getD}
+use lib.ListN.{length, take, drop}
 use Rattle.fields.specs.Text.{Text}
 use Rattle.fields.specs.Format.{_then_, leading, mapped, manyLay, many, heldLay, held, flagOf}
 use Rattle.fields.specs.Fields.{digits, number, choice, numeric, whole, limited, textOf, text, indexedText, counted, optional}
 use Rattle.fields.specs.Files.{fileOf}
 use Rattle.fields.specs.Places.{valueAt, placeAt}
 use Rattle.fields.proofs.Reading.{then-value, leading-value, mapped-value, number-value, indexed-text-value}
-use Rattle.fields.proofs.Rows.{values-from, values-length}
+use Rattle.fields.proofs.Rows.{values-length}
 use Rattle.plans.specs.Plans.{Step, Read, steps, member, members, read, readsOf}
 use Rattle.plans.specs.Access.{readHead, memberBytes}
 use Rattle.plans.proofs.Round.{lawful-read, lawful-name}

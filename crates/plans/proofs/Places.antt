@@ -1,20 +1,17 @@
 -- The end of a field is told by the ends of its parts, here for the fields of a plan file.
 -- Counts, flags, key bytes and lengths are met as the readers of numbers and texts answer them.
 -- Assumes nothing.
-use Prim.Native.Nat.{ℕ, zero, suc, _+_, _-_, _^_, _≤_, _<_}
+use Prim.Native.Nat.{ℕ, zero, suc, _+_, _-_}
 use mathlib.Core.Path.{_≡_, refl, sym, ap, ap₂, _∙_}
 use mathlib.Core.List.{List}
 use native.Mathlib.Omega.{arith}
 use lib.ListN.{length, take, drop}
-use Rattle.fields.specs.Format.{Format, _then_, among, many, held, flagOf}
-use Rattle.fields.specs.Fields.{number, choice, whole, limited, textPast, text, indexedText, counted, optional}
+use Rattle.fields.specs.Format.{_then_, among}
+use Rattle.fields.specs.Fields.{choice, whole, limited, textPast, text, indexedText, optional}
 use Rattle.fields.specs.Places.{placeAt}
-use Rattle.fields.proofs.Lawful.{Lawful}
-use Rattle.fields.proofs.LawfulFields.{lawful-number}
-use Rattle.fields.proofs.Reading.{then-place, leading-place, mapped-place, many-place-more, held-place-none, held-place-some, number-value, number-place, choice-value, choice-place, text-place, indexed-text-place}
+use Rattle.fields.proofs.Reading.{then-place, leading-place, mapped-place, number-place, choice-value, choice-place, text-place, indexed-text-place}
 use Rattle.plans.specs.Plans.{stepByte, afterByte, step, steps, member, members, read}
 use Rattle.plans.proofs.Round.{lawful-kind, lawful-tag, lawful-name}
-use Rattle.plans.proofs.Steps.{lawful-flag}
 
 -- ---- keys
 module _ (s : List ℕ) (p r : ℕ) where

@@ -1,19 +1,19 @@
 -- The check of a key is that of its byte and of what follows it; the check of a member or a read is that of its fields in a row.
 -- Fields of one kind in a row are checked by a loop: what is left gives what the whole gives, with one law for each way through it.
 -- Assumes nothing.
-use Prim.Native.Nat.{ℕ, zero, suc, _-_, _≤_, _<_}
+use Prim.Native.Nat.{ℕ, zero, suc, _-_}
 use mathlib.Core.Path.{_≡_, refl, sym, _∙_}
 use mathlib.Core.List.{List}
 use native.Mathlib.Omega.{arith}
 use lib.ListN.{take, drop}
-use Rattle.fields.specs.Format.{Format, _then_, among, many}
+use Rattle.fields.specs.Format.{_then_, among}
 use Rattle.fields.specs.Fields.{number, choice, whole, limited, text, indexedText, optional}
 use Rattle.fields.specs.Places.{outcome, checkAt}
 use Rattle.fields.specs.declared.Refusal.{Refusal}
 use Rattle.fields.specs.declared.Checked.the-variants.{Good, Refused}
 use Rattle.fields.proofs.Lawful.{Lawful}
 use Rattle.fields.proofs.LawfulFields.{lawful-number, lawful-choice}
-use Rattle.fields.proofs.Chains.{mapped-same, leading-bad, leading-good, many-none, many-bad, many-more}
+use Rattle.fields.proofs.Chains.{mapped-same, leading-bad, leading-good}
 use Rattle.fields.proofs.Reading.{choice-value}
 use Rattle.plans.specs.Plans.{stepByte, afterByte, step, steps, member, members, read}
 use Rattle.plans.proofs.Round.{lawful-kind}

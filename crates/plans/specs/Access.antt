@@ -4,9 +4,7 @@ use Prim.Native.Nat.{ℕ}
 use mathlib.Core.List.{List, [], _∷_, _++_}
 use lib.ListN.{length}
 use Rattle.fields.specs.Text.{Text}
-use Rattle.fields.specs.Fields.{number, digits}
-use Rattle.fields.specs.Places.{valueAt, placeAt, placesFrom}
-use Rattle.plans.specs.Plans.{read}
+use Rattle.fields.specs.Fields.{digits}
 
 -- the bytes of a read before its members: its name and how many there are
 unfoldable pub readHead : Text → ℕ → List ℕ

@@ -1,8 +1,7 @@
 -- What a caller asks of a catalog file with a name: the file is checked, then the name, then the answer is that of the catalog.
 -- Assumes nothing: these are definitions.
-use Prim.Native.Nat.{ℕ, _+_}
-use mathlib.Core.Bool.{Bool, cond}
-use mathlib.Core.Path.{_≡_}
+use Prim.Native.Nat.{ℕ}
+use mathlib.Core.Bool.{cond}
 use mathlib.Core.List.{List, [], _∷_}
 use mathlib.Core.Option.{Option, none, some}
 use lib.Dec.{ltb}
@@ -13,7 +12,7 @@ use Rattle.fields.specs.Fields.{textBytes, indexCheck}
 use Rattle.fields.specs.declared.Refusal.{Refusal}
 use Rattle.fields.specs.declared.Refusal.the-variants.{OverLimit}
 use Rattle.names.specs.Listing.{longestName}
-use Rattle.catalog.specs.Catalog.{Node, Catalog, catalogOf}
+use Rattle.catalog.specs.Catalog.{Node}
 use Rattle.catalog.specs.Check.{catalogVerdict}
 use Rattle.nodes.specs.Reading.{nodeIn, nodeRead}
 use Rattle.nodes.specs.Placed.{foundTold}

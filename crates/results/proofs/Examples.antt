@@ -7,7 +7,7 @@ use mathlib.Core.List.{List, [], _∷_, _++_}
 use mathlib.Core.Option.{none, some}
 use lib.ListN.{set}
 use Rattle.repeats.specs.Repeats.{isAgain}
-use Rattle.fields.specs.Text.{Text, bytes, between, printable, lower, lowered, same, alike}
+use Rattle.fields.specs.Text.{bytes, between, printable, lower, lowered, same, alike}
 use Rattle.fields.specs.Decimal.{isDigit, valueFrom, leadingDigits}
 use Rattle.fields.specs.Options.{andThen, orElse}
 use Rattle.fields.specs.Format.{fine, bad, first, joined, onward, _then_, leading, mapped, given, manyRead, manyLay, many, heldRead, heldLay, held, flagOf, among}
@@ -15,13 +15,13 @@ use Rattle.fields.specs.Fields.{spelled, digits, whole, limited, numberCheck, n
 use Rattle.fields.specs.Files.{openingCheck, endingCheck, fieldsCheck, fileCheck, fileOf, fileLay, countsVerdict}
 use Rattle.fields.specs.Places.{valueAt, placeAt, placesFrom}
 use Rattle.fields.specs.declared.Refusal.the-variants.{OutOfFile, NotAllowed, CountsDiffer}
-use Rattle.plans.specs.Plans.{Step, named, indexed, Member, Read, stepByte, namedText, indexedNumber, firstNumber, afterByte, step, readsOf, planVerdict}
+use Rattle.plans.specs.Plans.{named, indexed, Read, stepByte, namedText, indexedNumber, firstNumber, afterByte, step, readsOf, planVerdict}
 use Rattle.plans.specs.Plans.{member as planMember, read as planRead, layout as planFile}
 use Rattle.values.specs.Value.{Value, leaf, array, struct, noItem, item, noMember, member}
 use Rattle.values.specs.File.{runsPast, inside, enclosed, bytesLeft, itemList, itemsOf, memberList, membersOf, kindByte, leafBytes, arrayItems, structMembers, stringBytes, items, members, afterKind, content, tooDeep, value}
 use Rattle.values.specs.Alike.{pastValue, kindAt, countPlace, itemsAlike, membersAlike, kindAlike, alikeWithin}
 use Rattle.values.specs.Dig.{countAt, firstPlace, itemPlaces, namePlaces, findName, memberPlace, itemPlace, stepPlace, digPlace}
-use Rattle.results.specs.Results.{Result, got, failed, neither, statusByte, nothing, gotValue, ifFailed, ifNeither, afterStatus, result, resultsOf, fieldsVerdict, resultAlike, resultsAlike, resultsVerdict, layout}
+use Rattle.results.specs.Results.{got, failed, neither, statusByte, nothing, gotValue, ifFailed, ifNeither, afterStatus, result, resultsOf, fieldsVerdict, resultAlike, resultsAlike, resultsVerdict, layout}
 use Rattle.results.specs.Sorting.{replyBy, repliesFrom, repliesOf, cutOr, cutFrom, entryOf, hasNoPath, isPlain, entriesFrom, allRetry, otherEntries, readEntries, sortedEntries, isRetry, anyRetry, isError, stands, isAdded, failedFrom, sortedOf, entryByte, cutPlace, ifRetry, ifReceived, afterEntry, entry, sorted, sortedFile, sortVerdict}
 
 -- opens every definition that the check, the reading, the layout and the sorting need

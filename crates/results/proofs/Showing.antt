@@ -11,7 +11,7 @@ use Rattle.fields.specs.Format.{many}
 use Rattle.fields.specs.Fields.{whole, limited, textPast}
 use Rattle.fields.specs.Places.{valueAt}
 use Rattle.fields.specs.declared.Refusal.{Refusal}
-use Rattle.plans.specs.Plans.{Step, step, member}
+use Rattle.plans.specs.Plans.{Step, step}
 use Rattle.values.specs.Dig.{digPlace}
 use Rattle.values.specs.Told.{dugTold}
 use Rattle.values.specs.declared.Dug.{Dug}

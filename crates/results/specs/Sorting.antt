@@ -3,9 +3,8 @@
 -- Assumes nothing: these are definitions.
 use Prim.Native.Nat.{ℕ, zero, suc, _+_}
 use mathlib.Core.Bool.{Bool, true, false, cond}
-use mathlib.Core.List.{List, [], _∷_, _++_, map}
+use mathlib.Core.List.{List, [], _∷_, _++_}
 use mathlib.Core.Option.{Option, none, some}
-use lib.Dec.{eqb}
 use lib.ListN.{length}
 use Rattle.fields.specs.Text.{Text, same}
 use Rattle.fields.specs.Format.{Verdict, first, Format, _then_, leading, mapped, among}

@@ -27,7 +27,7 @@ use Rattle.values.specs.Dig.{anyValue, itemPlaces, namePlaces, findName,
 use Rattle.values.proofs.Bodies.{body, layout-is, layout-length, items-few, members-few}
 use Rattle.values.proofs.Round.{fields-accepted}
 use Rattle.values.proofs.Walks.{oneMember, member-end}
-use Rattle.values.proofs.Stands.{Stands, stands-after, stands-front, stands-behind, stands-part, text-stands, text-ends, content-stands, value-ends, kind-is, count-is, first-is, counted-stands}
+use Rattle.values.proofs.Stands.{Stands, stands-after, stands-front, stands-behind, stands-part, text-stands, text-ends, value-ends, kind-is, count-is, first-is, counted-stands}
 
 -- ---- a value that stands at a place, and is no longer than a file
 pub record Placed (s : List ℕ) (at : ℕ) (v : Value) : Type 0 where

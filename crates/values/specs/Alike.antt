@@ -1,10 +1,8 @@
 -- Refusal 6 of a value file: a struct with two members of just the same name. Names are told by their places in the file.
 -- Assumes nothing: these are definitions.
-use Prim.Native.Nat.{ℕ, zero, suc, _+_}
+use Prim.Native.Nat.{ℕ, zero, suc}
 use mathlib.Core.Bool.{Bool, true, false, cond, _&&_}
 use mathlib.Core.List.{List, [], _∷_}
-use lib.Dec.{eqb}
-use lib.ListN.{length, take, drop}
 use Rattle.fields.specs.Text.{Text}
 use Rattle.fields.specs.Format.{Verdict, fine, bad, first}
 use Rattle.fields.specs.Fields.{number, choice, text}

@@ -8,14 +8,14 @@ use lib.Dec.{eqb, ltb}
 use lib.ListN.{getD}
 use Rattle.fields.specs.Text.{Text, same, alike}
 use Rattle.fields.specs.Options.{andThen, orElse}
-use Rattle.fields.specs.Format.{Verdict, fine, bad, first, Format, _then_}
+use Rattle.fields.specs.Format.{Verdict, first, Format, _then_}
 use Rattle.fields.specs.Fields.{number, text}
 use Rattle.fields.specs.Files.{fieldsCheck}
 use Rattle.fields.specs.Places.{valueAt, placeAt, placesFrom}
 use Rattle.plans.specs.Plans.{Step, named, indexed, firstOf, steps}
 use Rattle.values.specs.Value.{Value, leads}
-use Rattle.values.specs.File.{enclosed, bytesLeft, valueOf, layout}
-use Rattle.values.specs.Alike.{pastValue, kindAt, countPlace, valueVerdict}
+use Rattle.values.specs.File.{enclosed, bytesLeft, valueOf}
+use Rattle.values.specs.Alike.{kindAt, countPlace, valueVerdict}
 
 -- 01: "A path is key count and keys as in a plan, without version, so 1 and 2 skip it": the keys that any bytes spell
 unfoldable pub pathOf : List ℕ → List Step

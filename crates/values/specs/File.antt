@@ -7,9 +7,9 @@ use mathlib.Core.Option.{Option, none, some}
 use lib.Dec.{ltb}
 use lib.ListN.{length, take, drop}
 use Rattle.fields.specs.Text.{Text}
-use Rattle.fields.specs.Format.{Verdict, fine, bad, Answer, Format, _then_, leading, mapped, among}
+use Rattle.fields.specs.Format.{Verdict, fine, bad, Format, _then_, leading, mapped, among}
 use Rattle.fields.specs.Fields.{digits, whole, choice, text, counted}
-use Rattle.fields.specs.Files.{fieldsCheck, fileCheck, fileOf, fileLay}
+use Rattle.fields.specs.Files.{fieldsCheck, fileCheck, fileOf}
 use Rattle.fields.specs.declared.Refusal.the-variants.{OutOfFile, TooManyLevels}
 use Rattle.values.specs.Value.{Value, leaf, array, struct, Items, noItem, item, Members, noMember, member}
 use Rattle.values.specs.Value.{text as string}

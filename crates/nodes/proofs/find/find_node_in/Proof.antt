@@ -4,7 +4,6 @@ use mathlib.Core.Path.{_≡_, sym, _∙_}
 use mathlib.Core.Logic.{⊎-elim}
 use lib.ListN.{length, drop}
 use borrow.Author.Needs.{needs}
-use denote.Ref.{now}
 use Rattle.fields.proofs.Lists.{drop-next, drop-past}
 use Rattle.nodes.specs.Placed.{isNamedAt, isCalledAt, nodePlace}
 use Rattle.nodes.proofs.Passes.{passed, pass-start, pass-end, pass-named, pass-called, pass-other}
