@@ -128,7 +128,7 @@ fn place(result: &TagResult) -> Entry {
 
 /// `execute` on one chunk of these reads and results: the entries by tag and the failed names.
 fn run(reads: &[Read], results: &[TagResult]) -> (HashMap<String, TagResult>, Vec<String>) {
-    let mut plc = Answers { first: Some(results.to_vec()) };
+    let mut plc = Answers { first: Some(results.to_vec()), later: result(RETRIED, None, false) };
     let chunks = [reads.to_vec()];
     let mut between = |_: &mut dyn Plc, _| Err("one chunk has nothing between".to_owned());
     let answer = execute(&mut plc, &chunks, &mut between);
@@ -151,9 +151,10 @@ fn failed_positions(reads: &[Read], results: &[TagResult]) -> Vec<usize> {
     positions
 }
 
-/// A controller that gives the results it was made with, and says "retried" to every read after that.
-struct Answers {
-    first: Option<Vec<TagResult>>,
+/// A controller that gives its first results to one read, and the later result for each tag to every read after that.
+pub struct Answers {
+    pub first: Option<Vec<TagResult>>,
+    pub later: TagResult,
 }
 
 impl Plc for Answers {
@@ -164,8 +165,8 @@ impl Plc for Answers {
     fn close(&mut self) {}
 
     fn read(&mut self, tags: &[&str]) -> Result<Vec<TagResult>, String> {
-        let retried = || vec![result(RETRIED, None, false); tags.len()];
-        Ok(self.first.take().unwrap_or_else(retried))
+        let later = || vec![self.later.clone(); tags.len()];
+        Ok(self.first.take().unwrap_or_else(later))
     }
 
     fn write(&mut self, _: &str, _: &Value) -> Result<TagResult, String> {

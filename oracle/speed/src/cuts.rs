@@ -8,10 +8,9 @@ use ciplink::cip::TagResult;
 use oracle::library::Library;
 use oracle::plan::{self, PlannedRead, Step};
 use oracle::planner::{self, Key, Read, reach};
-use oracle::plc::{Catalog, Plc};
-use oracle::results::{self, Outcome};
+use oracle::plc::Plc;
+use oracle::results::{self, Answers, Outcome};
 use oracle::value::{self, Plain};
-use serde_json::Value as Json;
 
 use crate::case::{Case, Decoding, Right, Rust};
 use crate::groups::decoded;
@@ -94,41 +93,8 @@ fn execute_files(plan: &[u8], results: &[u8]) -> u128 {
 }
 
 fn sorted(chunks: &[Vec<Read>], received: Vec<TagResult>) -> impl Sized + use<> {
-    let mut plc = Answers { first: Some(received) };
+    let empty = TagResult { tag: String::new(), value: None, data_type: None, error: None };
+    let mut plc = Answers { first: Some(received), later: empty };
     let mut between = |_: &mut dyn Plc, _| Err("one chunk has nothing between".to_owned());
     planner::execute(&mut plc, chunks, &mut between)
-}
-
-/// A controller that hands over the results it was made with, and gives empty ones to reads after that.
-struct Answers {
-    first: Option<Vec<TagResult>>,
-}
-
-impl Plc for Answers {
-    fn open(&mut self) -> Result<(), String> {
-        Ok(())
-    }
-
-    fn close(&mut self) {}
-
-    fn read(&mut self, tags: &[&str]) -> Result<Vec<TagResult>, String> {
-        let empty = TagResult { tag: String::new(), value: None, data_type: None, error: None };
-        Ok(self.first.take().unwrap_or_else(|| vec![empty; tags.len()]))
-    }
-
-    fn write(&mut self, _: &str, _: &Value) -> Result<TagResult, String> {
-        Err("nothing is written".to_owned())
-    }
-
-    fn catalog(&mut self) -> Catalog {
-        Catalog::default()
-    }
-
-    fn version(&mut self) -> Json {
-        Json::Null
-    }
-
-    fn connection_size(&self) -> usize {
-        0
-    }
 }
