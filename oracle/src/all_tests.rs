@@ -7,6 +7,7 @@ use crate::cuts::tests::dig;
 use crate::library::Library;
 use crate::packed::tests::{chunks, packets};
 use crate::planned::tests::plan_chunks;
+use crate::signatures::{chunks_calls, packets_calls, planned_calls};
 
 fn run(library: Library, count: usize) -> (String, bool, Vec<String>) {
     let mut told = Vec::new();
@@ -82,44 +83,34 @@ unsafe extern "C" fn deeper(v: *const u8, n: usize, p: *const u8, m: usize) -> u
     }
 }
 
-/// Tells an entry too large by the number of entries.
-unsafe extern "C" fn counted(t: *const u64, n: usize, u: *const u64, m: usize, budget: u16) -> u64 {
-    match unsafe { packets(t, n, u, m, budget) } {
-        returned if returned == 5 << 56 | 255 => returned + 1,
-        returned => returned,
+packets_calls! {
+    /// Tells an entry too large by the number of entries.
+    fn counted(t, n, u, m, budget) {
+        match unsafe { packets(t, n, u, m, budget) } {
+            returned if returned == 5 << 56 | 255 => returned + 1,
+            returned => returned,
+        }
     }
 }
 
-/// Writes a last byte past the room where one byte is missing.
-unsafe extern "C" fn cramped(
-    t: *const u64,
-    n: usize,
-    u: *const u64,
-    m: usize,
-    budget: u16,
-    out: *mut u8,
-    room: usize,
-) -> u64 {
-    let returned = unsafe { chunks(t, n, u, m, budget, out, room) };
-    if returned == 9 << 56 | (room as u64 + 1) {
-        unsafe { *out.add(room) = 0 };
+chunks_calls! {
+    /// Writes a last byte past the room where one byte is missing.
+    fn cramped(t, n, u, m, budget, out, room) {
+        let returned = unsafe { chunks(t, n, u, m, budget, out, room) };
+        if returned == 9 << 56 | (room as u64 + 1) {
+            unsafe { *out.add(room) = 0 };
+        }
+        returned
     }
-    returned
 }
 
-/// Takes a plan of 257 reads as one of none.
-unsafe extern "C" fn crowded(
-    c: *const u8,
-    n: usize,
-    p: *const u8,
-    m: usize,
-    budget: u16,
-    out: *mut u8,
-    room: usize,
-) -> u64 {
-    match unsafe { plan_chunks(c, n, p, m, budget, out, room) } {
-        returned if returned == 5 << 56 | 1 => 11,
-        returned => returned,
+planned_calls! {
+    /// Takes a plan of 257 reads as one of none.
+    fn crowded(c, n, p, m, budget, out, room) {
+        match unsafe { plan_chunks(c, n, p, m, budget, out, room) } {
+            returned if returned == 5 << 56 | 1 => 11,
+            returned => returned,
+        }
     }
 }
 

@@ -44,6 +44,8 @@ pub mod planned;
 pub mod random;
 pub mod refusals;
 pub mod results;
+#[cfg(test)]
+mod signatures;
 pub mod smaller;
 pub mod store;
 pub mod table;

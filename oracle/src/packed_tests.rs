@@ -9,6 +9,7 @@ use crate::compare::tests::{RIGHT, run};
 use crate::groups;
 use crate::library::Library;
 use crate::refusals::SentBack;
+use crate::signatures::{chunks_calls, packets_calls};
 
 /// A lent table.
 type Table = (*const u64, usize);
@@ -23,88 +24,72 @@ fn refused(fields: &[Vec<u8>]) -> Option<u64> {
     refusal(fields).map(|refusal| refusal.returned())
 }
 
-pub(crate) unsafe extern "C" fn chunks(
-    t: *const u64,
-    n: usize,
-    u: *const u64,
-    m: usize,
-    budget: u16,
-    out: *mut u8,
-    room: usize,
-) -> u64 {
-    let fields = unsafe { fields((t, n), (u, m), budget) };
-    if let Some(returned) = refused(&fields) {
-        return returned;
-    }
-    let answer = groups::chunks(&fields[0], &fields[1], budget).expect("the tables are accepted");
-    if answer.len() > room {
-        return 9 << 56 | answer.len() as u64;
-    }
-    unsafe { std::slice::from_raw_parts_mut(out, answer.len()) }.copy_from_slice(&answer);
-    answer.len() as u64
-}
-
-pub(crate) unsafe extern "C" fn packets(t: *const u64, n: usize, u: *const u64, m: usize, budget: u16) -> u64 {
-    let fields = unsafe { fields((t, n), (u, m), budget) };
-    if let Some(returned) = refused(&fields) {
-        return returned;
-    }
-    let answer = groups::packets(&fields[0], &fields[1], budget).expect("the tables are accepted");
-    answer.iter().fold(0, |n, b| n << 8 | u64::from(*b))
-}
-
-/// Writes before it refuses tables of different counts.
-unsafe extern "C" fn hasty(
-    t: *const u64,
-    n: usize,
-    u: *const u64,
-    m: usize,
-    budget: u16,
-    out: *mut u8,
-    room: usize,
-) -> u64 {
-    let returned = unsafe { chunks(t, n, u, m, budget, out, room) };
-    if returned >> 56 == 11 && room > 0 {
-        unsafe { *out = 1 };
-    }
-    returned
-}
-
-/// Fills one byte more than it tells, where there is room.
-unsafe extern "C" fn behind(
-    t: *const u64,
-    n: usize,
-    u: *const u64,
-    m: usize,
-    budget: u16,
-    out: *mut u8,
-    room: usize,
-) -> u64 {
-    let returned = unsafe { chunks(t, n, u, m, budget, out, room) };
-    if returned >> 56 == 0 && returned < room as u64 {
-        unsafe { *out.add(returned as usize) = 0xa5 };
-    }
-    returned
-}
-
-/// Takes a budget one larger.
-unsafe extern "C" fn roomy(t: *const u64, n: usize, u: *const u64, m: usize, budget: u16) -> u64 {
-    unsafe { packets(t, n, u, m, budget.saturating_add(1)) }
-}
-
-/// Looks at the replies first.
-unsafe extern "C" fn crossed(t: *const u64, n: usize, u: *const u64, m: usize, budget: u16) -> u64 {
-    let fields = unsafe { fields((u, m), (t, n), budget) };
-    match refused(&fields) {
-        Some(returned) => returned,
-        None => unsafe { packets(t, n, u, m, budget) },
+chunks_calls! {
+    pub(crate) fn chunks(t, n, u, m, budget, out, room) {
+        let fields = unsafe { fields((t, n), (u, m), budget) };
+        if let Some(returned) = refused(&fields) {
+            return returned;
+        }
+        let answer = groups::chunks(&fields[0], &fields[1], budget).expect("the tables are accepted");
+        if answer.len() > room {
+            return 9 << 56 | answer.len() as u64;
+        }
+        unsafe { std::slice::from_raw_parts_mut(out, answer.len()) }.copy_from_slice(&answer);
+        answer.len() as u64
     }
 }
 
-/// Is right at every other call only.
-unsafe extern "C" fn fickle(t: *const u64, n: usize, u: *const u64, m: usize, budget: u16) -> u64 {
-    static CALLS: AtomicU64 = AtomicU64::new(0);
-    unsafe { packets(t, n, u, m, budget) + CALLS.fetch_add(1, Ordering::Relaxed) % 2 }
+packets_calls! {
+    pub(crate) fn packets(t, n, u, m, budget) {
+        let fields = unsafe { fields((t, n), (u, m), budget) };
+        if let Some(returned) = refused(&fields) {
+            return returned;
+        }
+        let answer = groups::packets(&fields[0], &fields[1], budget).expect("the tables are accepted");
+        answer.iter().fold(0, |n, b| n << 8 | u64::from(*b))
+    }
+}
+
+chunks_calls! {
+    /// Writes before it refuses tables of different counts.
+    fn hasty(t, n, u, m, budget, out, room) {
+        let returned = unsafe { chunks(t, n, u, m, budget, out, room) };
+        if returned >> 56 == 11 && room > 0 {
+            unsafe { *out = 1 };
+        }
+        returned
+    }
+
+    /// Fills one byte more than it tells, where there is room.
+    fn behind(t, n, u, m, budget, out, room) {
+        let returned = unsafe { chunks(t, n, u, m, budget, out, room) };
+        if returned >> 56 == 0 && returned < room as u64 {
+            unsafe { *out.add(returned as usize) = 0xa5 };
+        }
+        returned
+    }
+}
+
+packets_calls! {
+    /// Takes a budget one larger.
+    fn roomy(t, n, u, m, budget) {
+        unsafe { packets(t, n, u, m, budget.saturating_add(1)) }
+    }
+
+    /// Looks at the replies first.
+    fn crossed(t, n, u, m, budget) {
+        let fields = unsafe { fields((u, m), (t, n), budget) };
+        match refused(&fields) {
+            Some(returned) => returned,
+            None => unsafe { packets(t, n, u, m, budget) },
+        }
+    }
+
+    /// Is right at every other call only.
+    fn fickle(t, n, u, m, budget) {
+        static CALLS: AtomicU64 = AtomicU64::new(0);
+        unsafe { packets(t, n, u, m, budget) + CALLS.fetch_add(1, Ordering::Relaxed) % 2 }
+    }
 }
 
 #[test]

@@ -7,6 +7,7 @@ use crate::compare::tests::{RIGHT, run};
 use crate::groups;
 use crate::library::Library;
 use crate::planned::{self, PlannedCall};
+use crate::signatures::planned_calls;
 
 /// A lent file.
 type File = (*const u8, usize);
@@ -34,100 +35,54 @@ unsafe fn answer(catalog: File, plan: File, budget: u16) -> Result<Vec<u8>, u64>
     }
 }
 
-pub(crate) unsafe extern "C" fn plan_chunks(
-    c: *const u8,
-    n: usize,
-    p: *const u8,
-    m: usize,
-    budget: u16,
-    out: *mut u8,
-    room: usize,
-) -> u64 {
-    match unsafe { answer((c, n), (p, m), budget) } {
-        Ok(answer) => written(&answer, out, room),
-        Err(returned) => returned,
+planned_calls! {
+    pub(crate) fn plan_chunks(c, n, p, m, budget, out, room) {
+        match unsafe { answer((c, n), (p, m), budget) } {
+            Ok(answer) => written(&answer, out, room),
+            Err(returned) => returned,
+        }
     }
-}
 
-/// Writes before it refuses a file.
-unsafe extern "C" fn hasty(
-    c: *const u8,
-    n: usize,
-    p: *const u8,
-    m: usize,
-    budget: u16,
-    out: *mut u8,
-    room: usize,
-) -> u64 {
-    let returned = unsafe { plan_chunks(c, n, p, m, budget, out, room) };
-    if returned >> 56 == 3 && room > 0 {
-        unsafe { *out = 1 };
+    /// Writes before it refuses a file.
+    fn hasty(c, n, p, m, budget, out, room) {
+        let returned = unsafe { plan_chunks(c, n, p, m, budget, out, room) };
+        if returned >> 56 == 3 && room > 0 {
+            unsafe { *out = 1 };
+        }
+        returned
     }
-    returned
-}
 
-/// Takes a byte behind the plan.
-unsafe extern "C" fn lax(
-    c: *const u8,
-    n: usize,
-    p: *const u8,
-    m: usize,
-    budget: u16,
-    out: *mut u8,
-    room: usize,
-) -> u64 {
-    let returned = unsafe { plan_chunks(c, n, p, m, budget, out, room) };
-    match returned >> 56 == 3 && m > 1 {
-        true => taken(unsafe { plan_chunks(c, n, p, m - 1, budget, out, room) }, returned),
-        false => returned,
+    /// Takes a byte behind the plan.
+    fn lax(c, n, p, m, budget, out, room) {
+        let returned = unsafe { plan_chunks(c, n, p, m, budget, out, room) };
+        match returned >> 56 == 3 && m > 1 {
+            true => taken(unsafe { plan_chunks(c, n, p, m - 1, budget, out, room) }, returned),
+            false => returned,
+        }
     }
-}
 
-/// Refuses a file with another place at every other call.
-unsafe extern "C" fn fickle(
-    c: *const u8,
-    n: usize,
-    p: *const u8,
-    m: usize,
-    budget: u16,
-    out: *mut u8,
-    room: usize,
-) -> u64 {
-    static CALLS: AtomicU64 = AtomicU64::new(0);
-    let returned = unsafe { plan_chunks(c, n, p, m, budget, out, room) };
-    match returned >> 56 == 3 {
-        true => returned + CALLS.fetch_add(1, Ordering::Relaxed) % 2,
-        false => returned,
+    /// Refuses a file with another place at every other call.
+    fn fickle(c, n, p, m, budget, out, room) {
+        static CALLS: AtomicU64 = AtomicU64::new(0);
+        let returned = unsafe { plan_chunks(c, n, p, m, budget, out, room) };
+        match returned >> 56 == 3 {
+            true => returned + CALLS.fetch_add(1, Ordering::Relaxed) % 2,
+            false => returned,
+        }
     }
-}
 
-/// Refuses with a place past the end.
-unsafe extern "C" fn far(
-    c: *const u8,
-    n: usize,
-    p: *const u8,
-    m: usize,
-    budget: u16,
-    out: *mut u8,
-    room: usize,
-) -> u64 {
-    match unsafe { plan_chunks(c, n, p, m, budget, out, room) } {
-        returned if returned >> 56 == 3 => returned + n.max(m) as u64 + 1,
-        returned => returned,
+    /// Refuses with a place past the end.
+    fn far(c, n, p, m, budget, out, room) {
+        match unsafe { plan_chunks(c, n, p, m, budget, out, room) } {
+            returned if returned >> 56 == 3 => returned + n.max(m) as u64 + 1,
+            returned => returned,
+        }
     }
-}
 
-/// Takes a budget one larger.
-unsafe extern "C" fn roomy(
-    c: *const u8,
-    n: usize,
-    p: *const u8,
-    m: usize,
-    budget: u16,
-    out: *mut u8,
-    room: usize,
-) -> u64 {
-    unsafe { plan_chunks(c, n, p, m, budget.saturating_add(1), out, room) }
+    /// Takes a budget one larger.
+    fn roomy(c, n, p, m, budget, out, room) {
+        unsafe { plan_chunks(c, n, p, m, budget.saturating_add(1), out, room) }
+    }
 }
 
 fn wrong(call: PlannedCall) -> String {
