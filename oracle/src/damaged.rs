@@ -54,3 +54,9 @@ fn cut(sample: &[u8], starts: &[usize]) -> Vec<Case> {
     };
     (1..sample.len()).map(case).collect()
 }
+
+/// The cases, and behind them those of each function in turn.
+fn followed(mut cases: Vec<Case>, by: &[fn() -> Vec<Case>]) -> Vec<Case> {
+    cases.extend(by.iter().flat_map(|further| further()));
+    cases
+}

@@ -1,19 +1,12 @@
 //! Damaged catalogs: refusals 1 to 7.
 
-use super::{Case, Over, accepted, cut, overwritten, refused};
+use super::{Case, Over, accepted, cut, followed, overwritten, refused};
 use crate::catalog::{ATOMIC, Catalog, MOST_MEMBERS, MOST_TAGS, MOST_TYPES, Node, STRING, STRUCT, TEXT, Type};
 
 pub fn all() -> Vec<Case> {
     let mut cases = overwritten(SAMPLE, OVER);
     cases.extend(cut(SAMPLE, STARTS));
-    cases.extend(ends());
-    cases.extend(texts());
-    cases.extend(counts());
-    cases.extend(alike_tags());
-    cases.extend(alike_types());
-    cases.extend(circles());
-    cases.extend(chains());
-    cases
+    followed(cases, &[ends, texts, counts, alike_tags, alike_types, circles, chains])
 }
 
 /// A catalog of one tag and one type of one member, 56 bytes. Each line is a field and has its place in front.

@@ -1,20 +1,12 @@
 //! Damaged lists: refusals 1 to 5 and 8.
 
-use super::{Case, Over, accepted, cut, overwritten, refused};
+use super::{Case, Over, accepted, cut, followed, overwritten, refused};
 use crate::list::List;
 
 pub fn all() -> Vec<Case> {
     let mut cases = overwritten(SAMPLE, OVER);
     cases.extend(cut(SAMPLE, STARTS));
-    cases.extend(ends());
-    cases.extend(counts());
-    cases.extend(tag_texts());
-    cases.extend(name_texts());
-    cases.extend(indexes());
-    cases.extend(long_indexes());
-    cases.extend(no_indexes());
-    cases.extend(in_order());
-    cases
+    followed(cases, &[ends, counts, tag_texts, name_texts, indexes, long_indexes, no_indexes, in_order])
 }
 
 /// A list of one no-group name, one together name and two tags, 28 bytes. Each line is a field and has its place in

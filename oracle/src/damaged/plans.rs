@@ -1,19 +1,12 @@
 //! Damaged plans: refusals 1 to 5 and 8.
 
-use super::{Case, Over, accepted, cut, overwritten, refused};
+use super::{Case, Over, accepted, cut, followed, overwritten, refused};
 use crate::plan::{self, Member, PlannedRead, Step};
 
 pub fn all() -> Vec<Case> {
     let mut cases = overwritten(SAMPLE, OVER);
     cases.extend(cut(SAMPLE, STARTS));
-    cases.extend(ends());
-    cases.extend(counts());
-    cases.extend(names());
-    cases.extend(texts());
-    cases.extend(indexes());
-    cases.extend(no_indexes());
-    cases.extend(in_order());
-    cases
+    followed(cases, &[ends, counts, names, texts, indexes, no_indexes, in_order])
 }
 
 /// A plan of two reads, the first with a path of each kind of key, 41 bytes. Each line is a field and has its place in

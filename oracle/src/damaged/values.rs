@@ -1,21 +1,11 @@
 //! Damaged values: refusals 1 to 6 and 10.
 
-use super::{Case, Over, accepted, overwritten, refused};
+use super::{Case, Over, accepted, followed, overwritten, refused};
 use crate::value::LIMIT;
 
 pub fn all() -> Vec<Case> {
-    let mut cases = overwritten(SAMPLE, OVER);
-    cases.extend(ended());
-    cases.extend(ends());
-    cases.extend(smallest());
-    cases.extend(texts());
-    cases.extend(levels());
-    cases.extend(levels_in_order());
-    cases.extend(names());
-    cases.extend(many_names());
-    cases.extend(in_order());
-    cases.extend(large());
-    cases
+    let cases = overwritten(SAMPLE, OVER);
+    followed(cases, &[ended, ends, smallest, texts, levels, levels_in_order, names, many_names, in_order, large])
 }
 
 /// A struct of a leaf, an array of two items and a text, 47 bytes. Each line is a field and has its place in front.
