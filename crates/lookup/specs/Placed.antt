@@ -58,18 +58,23 @@ infoPlaceIn s ts ps t = orElse (nodePlace s t ts) (pathPlaceIn s ts ps (take (pr
 unfoldable pub lookedPlaceIn : List ℕ → List ℕ → List ℕ → Text → Option ℕ
 lookedPlaceIn s ts ps t = cond (ltb longestName (length t)) none (infoPlaceIn s ts ps t)
 
--- ---- the same by the tables of all tags and types of the file
+-- ---- by the tables of all tags and types of the file
+-- where the member of a name stands, of the node at the place `p` whose type is listed
 abbrev pub memberPlace : List ℕ → ℕ → Text → Option ℕ
 memberPlace s p a = memberPlaceIn s (typePlaces s) p a
 
+-- 01, info: "step through members", from the node at the place `p`
 abbrev pub membersPlace : List ℕ → ℕ → List Text → Option ℕ
 membersPlace s p r = membersPlaceIn s (typePlaces s) p r
 
+-- where the parts of a path lead: a tag, of which the name starts with `h`, then its members
 abbrev pub pathPlace : List ℕ → Text → List Text → Option ℕ
 pathPlace s h r = pathPlaceIn s (tagPlaces s) (typePlaces s) h r
 
+-- 01, `info`: where a full name leads
 abbrev pub infoPlace : List ℕ → Text → Option ℕ
 infoPlace s t = infoPlaceIn s (tagPlaces s) (typePlaces s) t
 
+-- no name over 136 bytes is looked up
 abbrev pub lookedPlace : List ℕ → Text → Option ℕ
 lookedPlace s t = lookedPlaceIn s (tagPlaces s) (typePlaces s) t
