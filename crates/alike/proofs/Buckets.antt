@@ -2,7 +2,7 @@
 -- Names are met here as the readers of texts answer them: as a part of the file that is the name at a place.
 -- Assumes nothing.
 use Prim.Native.Nat.{ℕ, _+_, _*_, _%_, _≤_, _<_}
-use mathlib.Core.Path.{_≡_, refl, sym, ap, ap₂, _∙_}
+use mathlib.Core.Path.{_≡_, refl, ap, ap₂, _∙_}
 use mathlib.Core.Bool.{Bool, true}
 use mathlib.Core.List.{List, [], _∷_}
 use lib.ListN.{length, drop, getD}
@@ -11,9 +11,9 @@ use Rattle.fields.specs.Fields.{textOf}
 use Rattle.fields.specs.Places.{part}
 use Rattle.fields.proofs.Lists.{drop-next, drop-past}
 use Rattle.fields.proofs.Texts.{alike-is}
-use Rattle.fields.proofs.Reading.{text-value}
 use Rattle.catalog.specs.Alike.{nameAt}
 use Rattle.alike.specs.Buckets.{bucketFrom, bucketOf, alikeAt}
+use Rattle.nodes.proofs.Finds.{text-name}
 
 -- ---- the loop over a name's bytes
 pub bucket-start : (t : Text) → bucketFrom 0 (drop 0 t) ≡ bucketOf t
@@ -47,17 +47,13 @@ unfolding alikeAt bucketOf
 alike-bucket s p q e = bucket-lowered (nameAt s p) (nameAt s q) 0 (alike-is (nameAt s p) (nameAt s q) e)
 
 -- ---- names at places
-name-part : (s : List ℕ) (p a b : ℕ) → part a b s ≡ textOf (drop p s) → part a b s ≡ nameAt s p
-unfolding nameAt
-name-part s p a b e = e ∙ sym (text-value s p 128)
-
 pub bucket-at : (s : List ℕ) (p a b r : ℕ) → part a b s ≡ textOf (drop p s) → r ≡ bucketOf (part a b s) → r ≡ bucketOf (nameAt s p)
-bucket-at s p a b r e h = h ∙ ap bucketOf (name-part s p a b e)
+bucket-at s p a b r e h = h ∙ ap bucketOf (text-name s p a b e)
 
 module _ (s : List ℕ) (p q a b c d : ℕ) (r : Bool) (e : part a b s ≡ textOf (drop p s)) (g : part c d s ≡ textOf (drop q s)) where
   pub alike-at : r ≡ alike (part a b s) (part c d s) → r ≡ alikeAt s p q
   unfolding alikeAt
-  alike-at h = h ∙ ap₂ alike (name-part s p a b e) (name-part s q c d g)
+  alike-at h = h ∙ ap₂ alike (text-name s p a b e) (text-name s q c d g)
 
   pub same-at : r ≡ same (part a b s) (part c d s) → r ≡ same (nameAt s p) (nameAt s q)
-  same-at h = h ∙ ap₂ same (name-part s p a b e) (name-part s q c d g)
+  same-at h = h ∙ ap₂ same (text-name s p a b e) (text-name s q c d g)

@@ -25,6 +25,7 @@ use Rattle.catalog.specs.Alike.{nameAt, firstAlike}
 use Rattle.catalog.proofs.Round.{lawful-node}
 use Rattle.alike.specs.Buckets.{bucketOf, alikeAt, namesBefore, Chained, here, on, Links, Searched}
 use Rattle.alike.proofs.Buckets.{alike-bucket}
+use Rattle.fields.proofs.Lists.{zeros}
 
 -- ---- tables
 at-set : (l : List ℕ) (i v k : ℕ) (P : ℕ → Type 0) → i < length l → (k ≡ i → P v) → ((k ≡ i → ⊥) → P (getD l k 0)) → P (getD (set l i v) k 0)
@@ -33,11 +34,6 @@ at-set l i v k P h f g = go (eqb k i) refl
     go : (b : Bool) → eqb k i ≡ b → P (getD (set l i v) k 0)
     go true e = let q : k ≡ i = eqb-true k i e in rw (q, getD-set-same l i v 0 h) (f q)
     go false e = let q = eqb-false k i e in rw (getD-set-other l i k v 0 q) (g q)
-
-zeros : (n k : ℕ) → getD (replicate {A = ℕ} n 0) k 0 ≡ 0
-zeros zero k = refl
-zeros (suc n) zero = refl
-zeros (suc n) (suc k) = zeros n k
 
 -- ---- the names before a position
 module _ (p : Text → Bool) (s places : List ℕ) where

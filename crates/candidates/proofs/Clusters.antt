@@ -12,14 +12,14 @@ use lib.Seq.{drop-drop, take-take}
 use borrow.Author.Tests.{eq-eqb, ne-eqb, le-leb, leb-true, leb-false}
 use Rattle.fields.specs.Format.{All}
 use Rattle.fields.specs.Places.{part}
-use Rattle.fields.proofs.Lists.{part-first, drop-take, all-weaken, cond-elim}
+use Rattle.fields.proofs.Lists.{part-first, drop-take, all-weaken, cond-elim, part-none}
 use Rattle.names.specs.Pieces.{joined}
 use Rattle.catalog.specs.Finding.{any}
 use Rattle.planner.specs.Lists.{isOneOf}
 use Rattle.planner.specs.Candidates.{isNear, joinedTo, clustersOf}
 use Rattle.candidates.specs.Runs.{nearby}
 use Rattle.candidates.proofs.Positions.{any-yes, any-no, any-none}
-use Rattle.candidates.proofs.Rising.{part-none, length-part, Rises}
+use Rattle.candidates.proofs.Rising.{length-part, Rises}
 
 -- ---- the gap
 module _ (gap width i j : ℕ) where

@@ -1,6 +1,6 @@
 -- The groups of the rows, written column by column: what is left of them makes each column whole.
 -- Assumes nothing.
-use Prim.Native.Nat.{ℕ, suc, _+_, _≤_, _<_}
+use Prim.Native.Nat.{ℕ, _+_, _≤_, _<_}
 use native.Mathlib.Omega.{arith}
 use mathlib.Core.Path.{_≡_, refl, sym, ap, _∙_}
 use mathlib.Core.Bool.{Bool, true, false, not}
@@ -13,6 +13,7 @@ use Rattle.candidates.specs.Columns.{Bunch, endsFrom}
 use Rattle.candidates.specs.Heads.{isGroup, tagsUnder, bunchAt, groupsFrom, Room}
 use Rattle.candidates.proofs.Behind.{kept-yes, kept-no, kept-end}
 use Rattle.candidates.proofs.Filled.{Filled, filled-front, filled-there, filled-one, filled-many, filled-as, filled-end}
+use Rattle.candidates.proofs.Laying.{length-ends}
 
 -- ---- the groups that are left
 
@@ -32,11 +33,6 @@ module _ (firsts owners lengths sizes heads : List ℕ) (rows j : ℕ) where
   groups-none h = ap (map (bunchAt owners lengths sizes heads rows)) (kept-end rows j (isGroup firsts owners heads rows) h)
 
 -- ---- the columns
-
-length-ends : (at : ℕ) (xs : List (List ℕ)) → length (endsFrom at xs) ≡ length xs
-unfolding endsFrom
-length-ends at [] = refl
-length-ends at (x ∷ xs) = ap suc (length-ends (at + length x) xs)
 
 ends-more : (at : ℕ) (x : List ℕ) (xs : List (List ℕ)) → endsFrom at (x ∷ xs) ≡ (at + length x) ∷ endsFrom (at + length x) xs
 unfolding endsFrom

@@ -66,11 +66,6 @@ module _ {A B : Type 0} where
 
 -- ---- positions
 
-pub length-positions : (i m : ℕ) → length (positions i m) ≡ m
-unfolding positions
-length-positions i zero = refl
-length-positions i (suc m) = ap suc (length-positions (i + 1) m)
-
 pub each-position : (P : ℕ → Type 0) (i m : ℕ) → ((k : ℕ) → i ≤ k → k < i + m → P k) → All P (positions i m)
 unfolding positions
 each-position P i zero f = tt

@@ -4,7 +4,7 @@ use Prim.Native.Nat.{ℕ, suc, _+_, _-_, _≤_, _<_}
 use native.Mathlib.Omega.{arith}
 use mathlib.Core.Path.{_≡_, refl, sym, ap, subst, _∙_}
 use mathlib.Core.Bool.{Bool, true, false}
-use mathlib.Core.List.{List, [], _∷_, _++_, map, append-assoc, append-nil}
+use mathlib.Core.List.{List, [], _∷_, _++_, map, append-assoc, append-nil, map-append}
 use lib.Dec.{leb}
 use lib.ListN.{length, take, drop, set, length-append, length-map, length-set, take-append-drop}
 use borrow.Author.Tests.{leb-true, leb-false}
@@ -29,21 +29,17 @@ patch-none d at = go (leb (at + 0) (length d)) refl
         seam x y = ap (λ (l : List ℕ). l ++ y) (append-nil x)
     go false e = patch-over d at [] (leb-false (at + 0) (length d) e)
 
-map-append : {A B : Type 0} (f : A → B) (xs ys : List A) → map f (xs ++ ys) ≡ map f xs ++ map f ys
-map-append f [] ys = refl
-map-append f (x ∷ xs) ys = ap (λ l. f x ∷ l) (map-append f xs ys)
-
 joined-append : {A : Type 0} (xs ys : List (List A)) → joined (xs ++ ys) ≡ joined xs ++ joined ys
 unfolding joined
 joined-append [] ys = refl
 joined-append (x ∷ xs) ys = ap (λ l. x ++ l) (joined-append xs ys) ∙ sym (append-assoc x (joined xs) (joined ys))
 
-length-ends : (at : ℕ) (xs : List (List ℕ)) → length (endsFrom at xs) ≡ length xs
+pub length-ends : (at : ℕ) (xs : List (List ℕ)) → length (endsFrom at xs) ≡ length xs
 unfolding endsFrom
 length-ends at [] = refl
 length-ends at (x ∷ xs) = ap suc (length-ends (at + length x) xs)
 
-ends-append : (at : ℕ) (xs ys : List (List ℕ)) → endsFrom at (xs ++ ys) ≡ endsFrom at xs ++ endsFrom (at + length (joined xs)) ys
+pub ends-append : (at : ℕ) (xs ys : List (List ℕ)) → endsFrom at (xs ++ ys) ≡ endsFrom at xs ++ endsFrom (at + length (joined xs)) ys
 unfolding endsFrom joined
 ends-append at [] ys = let z : at + 0 ≡ at = omega arith in rw z
 ends-append at (x ∷ xs) ys =

@@ -21,8 +21,9 @@ use Rattle.candidates.specs.Columns.{Bunch, tagName, isOne, rowsIn, rowK
 use Rattle.planner.specs.Rows.{Row}
 use Rattle.candidates.specs.Heads.{keyAt, Heads, behind, isUnder, isNameUnder, namesUnder, tagsUnder, isGroup, bunchAt, groupsFrom, Read, Room}
 use Rattle.candidates.proofs.Sharing.{length-joined, two-each, key-shares}
-use Rattle.candidates.proofs.Keeping.{keep-same, keep-both, keep-fewer, keep-map, map-same, length-positions, each-behind}
+use Rattle.candidates.proofs.Keeping.{keep-same, keep-both, keep-fewer, keep-map, map-same, each-behind}
 use Rattle.candidates.proofs.Firsts.{kept-under, firsts-apart, first-rows}
+use Rattle.candidates.proofs.Positions.{positions-length}
 
 -- ---- the rows
 
@@ -174,7 +175,7 @@ module _ (s places firsts owners lengths sizes heads : List ℕ) (n : ℕ) (H : 
   served-most =
       let c = served-count in
       let k = key-shares key key starts (behind n 0) (firsts-apart key heads n H group group-own) in
-      let l = length-positions 0 (n - 0) in
+      let l = positions-length 0 (n - 0) in
       omega arith
 
   two-shares : (j : ℕ) → j < n → group j ≡ true → 2 ≤ share j

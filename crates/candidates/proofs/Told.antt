@@ -4,18 +4,19 @@
 use Prim.Native.Nat.{ℕ, suc, _+_, _<_}
 use native.Mathlib.Omega.{arith}
 use native.Mathlib.Nat.{add-zero, zero-add}
-use mathlib.Core.Path.{_≡_, refl, sym, ap, _∙_}
+use mathlib.Core.Path.{_≡_, sym, _∙_}
 use mathlib.Core.Bool.{Bool}
-use mathlib.Core.List.{List, [], _∷_, _++_}
+use mathlib.Core.List.{List, [], _∷_}
 use lib.ListN.{length, getD}
 use Rattle.fields.specs.Text.{Text}
 use Rattle.catalog.specs.Catalog.{Catalog}
 use Rattle.lists.specs.Lists.{TagList}
-use Rattle.planner.specs.Tags.{Tag, tagsBehind, tagsOf}
+use Rattle.planner.specs.Tags.{Tag, tagsOf}
 use Rattle.planner.specs.Merging.{noTag}
 use Rattle.planner.proofs.Each.{each-getD}
 use Rattle.planner.proofs.Serving.{text-at}
 use Rattle.candidates.proofs.Known.{Known, tags-known}
+use Rattle.planner.proofs.Listed.{tags-long}
 
 -- the columns of a list's tags: the name of each, and whether it is the first so called
 pub record Listing (c : Catalog) (w : TagList) (nm : ℕ → Text) (first : ℕ → Bool) : Type 0 where
@@ -43,12 +44,6 @@ pub record Told (nm : ℕ → Text) (first : ℕ → Bool) (p : ℕ) (t : Tag) :
 
 -- ---- the listed tags
 
--- there are as many as are listed
-pub length-tags : (c : Catalog) (w : TagList) (before ts : List Text) → length (tagsBehind c w before ts) ≡ length ts
-unfolding tagsBehind
-length-tags c w before [] = refl
-length-tags c w before (t ∷ ts) = ap suc (length-tags c w (before ++ t ∷ []) ts)
-
 nothing-known : Known noTag
 unfolding noTag
 nothing-known = record { above = tt; falls = tt; element = tt }
@@ -56,7 +51,7 @@ nothing-known = record { above = tt; falls = tt; element = tt }
 module _ (c : Catalog) (w : TagList) where
   pub tags-length : length (tagsOf c w) ≡ length (w .tags)
   unfolding tagsOf
-  tags-length = length-tags c w [] (w .tags)
+  tags-length = tags-long c w [] (w .tags)
 
   pub known-at : (p : ℕ) → Known (getD (tagsOf c w) p noTag)
   unfolding tagsOf

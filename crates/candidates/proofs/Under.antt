@@ -3,7 +3,7 @@
 use Prim.Native.Nat.{ℕ, _+_, _≤_, _<_}
 use native.Mathlib.Omega.{arith}
 use mathlib.Core.Path.{_≡_, refl, sym, ap, _∙_}
-use mathlib.Core.Bool.{Bool, true, false, _&&_}
+use mathlib.Core.Bool.{true, false}
 use mathlib.Core.List.{List, [], _∷_, map}
 use lib.Dec.{leb}
 use lib.ListN.{length, getD, set}
@@ -14,6 +14,7 @@ use Rattle.candidates.specs.Columns.{isOne}
 use Rattle.candidates.specs.Heads.{behind, isUnder, isNameUnder, namesUnder, tagsUnder, isGroup}
 use Rattle.candidates.proofs.Behind.{kept-yes, kept-no, kept-end}
 use Rattle.candidates.proofs.Filled.{Filled, filled-start, filled-there, filled-one, filled-as, filled-end}
+use Rattle.fields.proofs.Lists.{and-false}
 
 -- ---- one row
 
@@ -27,10 +28,6 @@ module _ (heads : List ℕ) (j k p : ℕ) (e : p ≡ getD heads k 0) where
   under-no n = ne-eqb (getD heads k 0) j (λ q. n (e ∙ q))
 
 -- ---- the names
-
-and-false : (b : Bool) → (b && false) ≡ false
-and-false true = refl
-and-false false = refl
 
 module _ (firsts owners heads : List ℕ) (rows j : ℕ) where
   -- `n` names were met before the row `k`

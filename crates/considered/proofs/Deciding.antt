@@ -6,9 +6,9 @@ use mathlib.Core.Path.{_≡_, refl, sym, ap, _∙_}
 use mathlib.Core.Bool.{Bool, true, false, cond, _&&_, false≢true}
 use mathlib.Core.List.{List, [], map}
 use lib.ListN.{length, drop, getD, List·getD-append}
-use Rattle.fields.specs.Format.{Verdict, fine, bad}
+use Rattle.fields.specs.Format.{fine, isFine}
 use Rattle.fields.specs.Writing.{answered}
-use Rattle.fields.proofs.Lists.{and-right}
+use Rattle.fields.proofs.Lists.{and-right, and-false}
 use Rattle.catalog.specs.Catalog.{catalogOf}
 use Rattle.types.specs.Whole.{isMarkable, wholeOf, WholeTold}
 use Rattle.structs.proofs.Marked.{marked-is}
@@ -17,26 +17,23 @@ use Rattle.lists.specs.Access.{tagPlaces}
 use Rattle.lists.proofs.TagPlaces.{tag-places-length}
 use Rattle.planner.specs.Tags.{Tag, tagsOf}
 use Rattle.planner.specs.Rows.{Row, rowsFrom}
-use Rattle.considered.specs.Considered.{isFine, isViewed, viewed, viewedPlaces, viewCount}
+use Rattle.considered.specs.Considered.{isViewed, viewed, viewedPlaces, viewCount}
 use Rattle.considered.specs.declared.Considered.{Considered}
 use Rattle.considered.specs.Answers.{TagsPlaced, MarksTold}
 use Rattle.considered.proofs.Listing.{tags-length}
+use Rattle.fields.proofs.Verdicts.{fine-is}
 
 -- ---- whether they are
 and-yes : (b : Bool) → (b && true) ≡ b
 and-yes true = refl
 and-yes false = refl
 
-and-no : (b : Bool) → (b && false) ≡ false
-and-no true = refl
-and-no false = refl
-
 module _ (catalog list : List ℕ) (b : Bool) (e : b ≡ isFine (listVerdict list)) where
   pub marks-refused : (marks : List ℕ) → b ≡ false → MarksTold catalog list marks false
   unfolding isViewed
   marks-refused marks y =
       record {
-        is = sym (ap (λ x. isMarkable (catalogOf catalog) 128 && x) (sym e ∙ y) ∙ and-no (isMarkable (catalogOf catalog) 128));
+        is = sym (ap (λ x. isMarkable (catalogOf catalog) 128 && x) (sym e ∙ y) ∙ and-false (isMarkable (catalogOf catalog) 128));
         whole = λ q. absurd (false≢true q);
       }
 
@@ -47,11 +44,6 @@ module _ (catalog list : List ℕ) (b : Bool) (e : b ≡ isFine (listVerdict lis
         is = w .is ∙ ap (isMarkable (catalogOf catalog)) h ∙ sym (ap (λ x. isMarkable (catalogOf catalog) 128 && x) (sym e ∙ y) ∙ and-yes (isMarkable (catalogOf catalog) 128));
         whole = λ q. record { each = λ n. marked-is (catalogOf catalog) old marks n (w .bytes ∙ ap (λ x. cond x (answered (wholeOf (catalogOf catalog)) old) old) q) };
       }
-
-fine-is : (v : Verdict) → isFine v ≡ true → v ≡ fine
-unfolding isFine
-fine-is fine e = refl
-fine-is (bad r) e = absurd (false≢true e)
 
 module _ (catalog list : List ℕ) (b : Bool) (e : b ≡ isViewed catalog list) where
   -- ---- where they are

@@ -25,6 +25,7 @@ use Rattle.planner.proofs.Items.{Item, item-of, item-small}
 use Rattle.considered.specs.Answers.{LaterText, indexIn, indexRead, widthIn, Levelled, elementTold, Limited}
 use Rattle.considered.specs.declared.Element.{Element as Told}
 use Rattle.considered.proofs.Fronts.{noToken, rest-is, later-at, level-at, last-level, between-read, between-is}
+use Rattle.fields.proofs.Decimals.{missing-is, value-is}
 
 -- ---- the element of a front and a key
 by-key : (c : Catalog) (w : TagList) (xs : List Token) (u : Token) (us : List Token) → 1 ≤ length xs → elementBy c w xs (u ∷ us) ≡ elementAt c w xs (u .key)
@@ -52,16 +53,6 @@ key-some c w xs (item j) i e =
 key-some c w xs (several is) i e = let z : _≡_ {A = ℕ} 0 1 = cc in absurd (omega arith)
 
 -- ---- numbers told
-number-none : (o : Option ℕ) → numberTold o ≡ Missing → o ≡ none
-unfolding numberTold
-number-none none e = refl
-number-none (some n) e = let z : _≡_ {A = ℕ} 0 1 = cc in absurd (omega arith)
-
-number-some : (o : Option ℕ) (v : ℕ) → numberTold o ≡ Value v → o ≡ some v
-unfolding numberTold
-number-some none v e = let z : _≡_ {A = ℕ} 0 1 = cc in absurd (omega arith)
-number-some (some n) v e = let z : n ≡ v = cc in ap some z
-
 bytes-none : (o : Option ℕ) → bytesTold o ≡ Unknown → o ≡ none
 unfolding bytesTold
 bytes-none none e = refl
@@ -115,12 +106,12 @@ module _ (catalog name ends nodes : List ℕ) (w : TagList) (l : Levelled catalo
   pub element-missing : (r : Told) → numberTold (indexRead (laterToken (part (getD ends (n - 1 - 1) 0) (length name) name))) ≡ Missing → r ≡ elementTold none
       → r ≡ elementTold (elementBy (catalogOf catalog) w (take (n - 1) (tokensOf name)) (drop (n - 1) (tokensOf name)))
   element-missing r q g =
-      let k = last-index none (number-none (indexRead (laterToken (part (getD ends (n - 1 - 1) 0) (length name) name))) q) in
+      let k = last-index none (missing-is (indexRead (laterToken (part (getD ends (n - 1 - 1) 0) (length name) name))) q) in
       g ∙ ap elementTold (sym (element-is ∙ key-none (catalogOf catalog) w (take (n - 1) (tokensOf name)) (getD (tokensOf name) (n - 1) noToken .key) k))
 
   module _ (v : ℕ) (q : numberTold (indexRead (laterToken (part (getD ends (n - 1 - 1) 0) (length name) name))) ≡ Value v) where
     index-is : indexIn (getD (tokensOf name) (n - 1) noToken .key) ≡ some v
-    index-is = last-index (some v) (number-some (indexRead (laterToken (part (getD ends (n - 1 - 1) 0) (length name) name))) v q)
+    index-is = last-index (some v) (value-is (indexRead (laterToken (part (getD ends (n - 1 - 1) 0) (length name) name))) v q)
 
     item-is : (k : Key) → indexIn k ≡ some v → k ≡ item v
     unfolding indexIn

@@ -25,6 +25,7 @@ use Rattle.planner.proofs.Each.{each-getD}
 use Rattle.planner.proofs.Writable.{listed-within}
 use Rattle.considered.specs.Answers.{Limited, isCounted, aboveIn, elementIn}
 use Rattle.considered.proofs.Named.{name-read}
+use Rattle.planner.proofs.Listed.{tags-long}
 
 -- ---- what is left behind a position
 abbrev pub left : Catalog → TagList → ℕ → List Tag
@@ -47,11 +48,6 @@ left-end c w i h = ap (tagsBehind c w (take i (w .tags))) (drop-of-length-le (w 
 pub left-start : (c : Catalog) (w : TagList) → left c w 0 ≡ tagsOf c w
 unfolding tagsOf
 left-start c w = refl
-
-tags-long : (c : Catalog) (w : TagList) (before ts : List Text) → length (tagsBehind c w before ts) ≡ length ts
-unfolding tagsBehind
-tags-long c w before [] = refl
-tags-long c w before (t ∷ ts) = ap suc (tags-long c w (before ++ t ∷ []) ts)
 
 pub tags-length : (c : Catalog) (w : TagList) → length (tagsOf c w) ≡ length (w .tags)
 unfolding tagsOf
@@ -102,7 +98,7 @@ above-few c w ts (suc k) =
     let a = length-append (asList (structAt c w (take (suc k) ts))) (cond (climbs c (take k ts) (drop k ts)) (aboveFrom c w ts k) []) in
     omega arith
 
-tokens-few : (t : Text) → length t ≤ 128 → length (tokensOf t) ≤ 64
+pub tokens-few : (t : Text) → length t ≤ 128 → length (tokensOf t) ≤ 64
 tokens-few t h = go (tokensOf t) refl
   where
     go : (ts : List Token) → tokensOf t ≡ ts → length ts ≤ 64

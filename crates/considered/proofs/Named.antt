@@ -17,7 +17,7 @@ use Rattle.fields.specs.Places.{part, numberTold}
 use Rattle.fields.proofs.Lists.{all-at}
 use Rattle.fields.proofs.Scans.{Passes, passes-other}
 use Rattle.names.specs.Pieces.{joined}
-use Rattle.names.specs.Name.{Key, member, Token, Reading, tokens, stops, reads, readName, listed, tokensOf, isLetter, isNameByte, isName, indexesOf, indexKey, laterToken, bracket, textOf, spelling}
+use Rattle.names.specs.Name.{Key, member, Token, tokens, reads, readName, listed, tokensOf, isLetter, isNameByte, isName, indexesOf, indexKey, laterToken, bracket, textOf, spelling}
 use Rattle.names.proofs.Tokens.{name-some, name-bytes, Form, dot, indexes, form-of, later-long, numeral-index}
 use Rattle.names.proofs.Spelling.{LaterToken, reads-names, spells, few-tokens}
 use Rattle.names.proofs.Ranges.{last, last-behind}
@@ -28,13 +28,9 @@ use Rattle.catalog.specs.Finding.{holds}
 use Rattle.sizes.specs.Sizes.{isBits}
 use Rattle.fields.specs.declared.Numeral.the-variants.{Value, Missing}
 use Rattle.considered.specs.Answers.{LaterText, indexIn, indexRead, keyClimbs, pieceClimbs}
+use Rattle.planner.proofs.Listed.{read-of}
 
 -- ---- the tokens of a name
-read-of : (r : Reading) → 1 ≤ length (listed r) → r ≡ tokens (listed r)
-unfolding listed
-read-of (tokens ts) h = refl
-read-of (stops i) h = absurd (omega arith)
-
 module _ (s : Text) (h : 1 ≤ length (tokensOf s)) where
   pub name-read : readName s ≡ tokens (tokensOf s)
   unfolding tokensOf

@@ -11,10 +11,9 @@ use lib.Dec.{eqb}
 use lib.ListN.{length}
 use borrow.Author.Tests.{le-ltb}
 use Rattle.fields.specs.Options.{andThen}
-use Rattle.fields.specs.Places.{valueAt, told, numberTold}
-use Rattle.fields.specs.declared.Numeral.the-variants.{Missing}
+use Rattle.fields.specs.Places.{valueAt, told}
 use Rattle.fields.specs.Text.{lowered, same}
-use Rattle.fields.specs.Format.{Verdict, fine, bad}
+use Rattle.fields.specs.Format.{Verdict, fine, bad, isFine}
 use Rattle.fields.specs.declared.Refusal.{Refusal}
 use Rattle.fields.specs.declared.Checked.the-variants.{Good, Refused}
 use Rattle.names.specs.Name.{Token, tokensOf}
@@ -45,7 +44,6 @@ use Rattle.lists.specs.Lists.{listOf}
 use Rattle.planner.specs.Tags.{endsInName, isBarred, isUnindexed, aboveOf, wholeAt, structAt}
 use Rattle.planner.specs.Serving.{once}
 use Rattle.considered.specs.Levels.{placeTold}
-use Rattle.considered.specs.Considered.{isFine}
 use Rattle.considered.specs.Answers.{foundBy, Leading, Whole, sizeIn, widthIn}
 use Rattle.considered.proofs.Named.{name-read, name-spelled, open-ends}
 use Rattle.names.proofs.Ranges.{last}
@@ -65,10 +63,6 @@ unfolding foundBy placeTold foundTold
 told-found none = refl
 told-found (some p) = rw (add-one p)
 
-pub none-told : (o : Option ℕ) → o ≡ none → Missing ≡ numberTold o
-unfolding numberTold
-none-told o e = rw e
-
 -- ---- yes and no
 pub flag-yes : (b : Bool) → b ≡ true → 1 ≡ once b
 unfolding once
@@ -80,12 +74,12 @@ flag-no b e = rw e
 
 module _ (n : ℕ) where
   pub fine-yes : (v : Verdict) (p : ℕ) → told v n ≡ Good p → true ≡ isFine v
-  unfolding told isFine
+  unfolding told
   fine-yes fine p e = refl
   fine-yes (bad r) p e = let z : _≡_ {A = ℕ} 0 1 = cc in absurd (omega arith)
 
   pub fine-no : (v : Verdict) (r : Refusal) → told v n ≡ Refused r → false ≡ isFine v
-  unfolding told isFine
+  unfolding told
   fine-no fine r e = let z : _≡_ {A = ℕ} 0 1 = cc in absurd (omega arith)
   fine-no (bad q) r e = refl
 

@@ -20,7 +20,7 @@ use Rattle.names.specs.declared.Step.the-variants.{Token as AToken, End, Stops}
 use Rattle.names.proofs.Tokens.{later-long}
 use Rattle.names.proofs.Spelling.{tokens-are, no-tokens}
 use Rattle.names.proofs.Walking.{StepRead, StepTells, step-tells, FirstTells, first-tells}
-use Rattle.names.proofs.Onward.{Reached, reached-first, first-stops, first-ends, reached-spelled, reached-end, reached-few, reached-next, reached-all, reached-stops}
+use Rattle.names.proofs.Onward.{Reached, reached-first, first-stops, reached-spelled, reached-end, reached-few, reached-next, reached-all, reached-stops}
 use Rattle.catalog.specs.Alike.{tagPlaces}
 use Rattle.nodes.specs.Placed.{foundTold, nodePlace, tagPlace}
 use Rattle.nodes.specs.declared.Found.{Found}
@@ -30,6 +30,7 @@ use Rattle.lookup.proofs.Fronts.{asPath, tag-or-path, path-first, path-name, pa
 use Rattle.considered.specs.Levels.{frontsFrom, fronts, placeTold, levelEnds, levelNodes}
 use Rattle.considered.specs.Found.{placeIn, placeBehind}
 use Rattle.considered.proofs.Telling.{place-found, told-below}
+use Rattle.names.proofs.Listings.{first-there}
 
 -- ---- fronts of tokens
 fronts-before : (ts us : List Token) (k n : ℕ) → k + n ≤ length ts + 1 → frontsFrom (ts ++ us) k n ≡ frontsFrom ts k n
@@ -92,7 +93,7 @@ pub first-none : (s t ends nodes : List ℕ) (i : ℕ) → firstStep t ≡ Stops
 first-none s t ends nodes i q = levelled-none s t ends nodes (no-tokens t i (first-stops t i q))
 
 pub first-missing : (s t ends nodes : List ℕ) → firstStep t ≡ End → Levelled s t ends nodes 0
-first-missing s t ends nodes q = absurd (first-ends t q)
+first-missing s t ends nodes q = absurd (first-there t q)
 
 -- ---- the loop
 pub record Resolving (s t ends nodes : List ℕ) (at n : ℕ) (path : Found) : Type 0 where

@@ -1,10 +1,10 @@
 -- The listed tags as the planner looks at them, in columns of numbers.
 -- Assumes nothing: these are definitions.
 use Prim.Native.Nat.{ℕ}
-use mathlib.Core.Bool.{Bool, true, false, cond, _&&_}
+use mathlib.Core.Bool.{Bool, cond, _&&_}
 use mathlib.Core.List.{List, []}
 use lib.ListN.{length}
-use Rattle.fields.specs.Format.{Verdict, fine, bad}
+use Rattle.fields.specs.Format.{isFine}
 use Rattle.catalog.specs.Catalog.{catalogOf}
 use Rattle.types.specs.Whole.{isMarkable}
 use Rattle.sizes.specs.Sizes.{readSize}
@@ -14,11 +14,6 @@ use Rattle.planner.specs.Lists.{given}
 use Rattle.planner.specs.Tags.{Tag, tagsOf}
 use Rattle.planner.specs.Rows.{rowsFrom}
 use Rattle.considered.specs.declared.Considered.{Considered}
-
--- whether a verdict is no refusal
-unfoldable pub isFine : Verdict → Bool
-isFine fine = true
-isFine (bad r) = false
 
 -- whether the tags are looked at: those of a list that is accepted, with a catalog whose types are not nested too deep
 unfoldable pub isViewed : List ℕ → List ℕ → Bool

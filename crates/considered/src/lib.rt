@@ -37,7 +37,7 @@ ghost use Rattle.fields.specs.Writing.{answered};
 ghost use Rattle.fields.specs.Places.{valueAt, part, numberTold};
 ghost use Rattle.fields.specs.Text.{same};
 ghost use Rattle.fields.specs.Options.{orElse};
-ghost use Rattle.fields.specs.Format.{fine};
+ghost use Rattle.fields.specs.Format.{fine, isFine};
 ghost use Rattle.names.specs.Name.{laterToken, tokensOf};
 ghost use Rattle.names.specs.Listing.{longestName};
 ghost use Rattle.names.specs.Steps.{firstStep};
@@ -57,7 +57,7 @@ ghost use Rattle.planner.specs.Rows.{rowOf, rowsFrom};
 ghost use Rattle.planner.specs.Serving.{once};
 ghost use Rattle.considered.specs.Levels.{placeTold, levelEnds, levelNodes};
 ghost use Rattle.considered.specs.Found.{placeIn, placeBehind};
-ghost use Rattle.considered.specs.Considered.{isFine, viewed, viewedPlaces, widthOf, indexOf, arrayOf, requestOf, replyOf, viewCount};
+ghost use Rattle.considered.specs.Considered.{viewed, viewedPlaces, widthOf, indexOf, arrayOf, requestOf, replyOf, viewCount};
 ghost use Rattle.considered.specs.Answers.{foundBy, Leading, Whole, sizeIn, LaterText, indexRead, pieceClimbs, widthIn, Levelled, SizeFits, rowTold, Columns, RowsPut, elementTold, Limited, TagsPlaced, firstAlike, isCounted, plainView, ViewTold, TagColumns, MarksTold};
 
 // How many tags are listed, and how many rows tell the structs above them.

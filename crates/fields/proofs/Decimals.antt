@@ -164,7 +164,7 @@ numeral-lowered (b ∷ r) = go (allDigits (b ∷ r)) refl
     go false e = rw (digits-lowered (b ∷ r), e)
 
 -- ---- the loop
-value-grows : (t : Text) (n : ℕ) → n ≤ valueFrom n t
+pub value-grows : (t : Text) (n : ℕ) → n ≤ valueFrom n t
 unfolding valueFrom
 value-grows [] n = omega arith
 value-grows (b ∷ r) n = let h = value-grows r (n * 10 + (b - 48)) in omega arith

@@ -15,4 +15,5 @@ pub mod Rows
 pub mod Scans
 pub mod Spelled
 pub mod Texts
+pub mod Verdicts
 pub mod WholeFiles

@@ -1,13 +1,13 @@
 -- Laws on lists, on parts of them and on tests that the other laws stand on.
 -- Assumes nothing.
 use mathlib.Core.Path.{_≡_, refl, sym, ap, _∙_}
-use mathlib.Core.Bool.{Bool, true, false, cond, _&&_, false≢true}
+use mathlib.Core.Bool.{Bool, true, false, cond, _&&_, _||_, false≢true}
 use mathlib.Core.List.{List, [], _∷_, _++_}
 use Prim.Native.Nat.{ℕ, zero, suc, _+_, _-_, _≤_, _<_}
 use native.Mathlib.Nat.{le-of-suc-le-suc}
 use native.Mathlib.Omega.{arith}
 use native.Mathlib.Numerals.{add-one}
-use lib.ListN.{length, take, drop, getD, length-take, length-drop, drop-of-length-le, take-append-drop}
+use lib.ListN.{length, take, drop, getD, replicate, length-take, length-drop, drop-of-length-le, take-append-drop}
 use lib.Seq.{drop-cons, drop-drop, take-add, getD-append-add}
 use lib.Dec.{eqb}
 use borrow.Author.Tests.{eq-eqb, ne-eqb, eqb-true, eqb-false}
@@ -32,6 +32,14 @@ and-left false y e = e
 pub and-right : (x y : Bool) → (x && y) ≡ true → y ≡ true
 and-right true y e = e
 and-right false y e = absurd (false≢true e)
+
+pub and-false : (b : Bool) → (b && false) ≡ false
+and-false true = refl
+and-false false = refl
+
+pub either-false : (x y : Bool) → (x || y) ≡ false → (x ≡ false) × (y ≡ false)
+either-false true y e = absurd (false≢true (sym e))
+either-false false y e = (refl, e)
 
 pub eqb-sym : (a b : ℕ) → eqb a b ≡ eqb b a
 eqb-sym a b = go (eqb b a) refl
@@ -73,6 +81,10 @@ part-length s at e l m = let a = length-take (e - at) (drop at s) in let d = len
 
 pub part-first : (s : List ℕ) (at e : ℕ) → at < length s → at < e → part at e s ≡ getD s at 0 ∷ part (at + 1) e s
 part-first s at e h l = let k : e - at ≡ suc (e - (at + 1)) = omega arith in rw (k, drop-next s at h)
+
+-- a part that ends where it starts, or before
+pub part-none : (s : List ℕ) (a e : ℕ) → e ≤ a → part a e s ≡ []
+part-none s a e h = let z : e - a ≡ 0 = omega arith in rw z
 
 -- what stands before a part, and what stands behind it
 pub take-part : (s : List ℕ) (at e : ℕ) → at ≤ e → take at s ++ part at e s ≡ take e s
@@ -129,3 +141,9 @@ bytes-take (suc n) (x ∷ r) b = go (bytes-take n r (λ k. b (suc k)))
     go : Bytes (take n r) → (k : ℕ) → getD (x ∷ take n r) k 0 < 256
     go h zero = b 0
     go h (suc k) = h k
+
+-- ---- a row of zeros
+pub zeros : (n k : ℕ) → getD (replicate {A = ℕ} n 0) k 0 ≡ 0
+zeros zero k = refl
+zeros (suc n) zero = refl
+zeros (suc n) (suc k) = zeros n k

@@ -4,6 +4,7 @@
 -- Assumes nothing: these are definitions.
 use Prim.Native.Nat.{ℕ, zero, suc, _+_, _<_}
 use mathlib.Core.Path.{_≡_}
+use mathlib.Core.Bool.{Bool, true, false}
 use mathlib.Core.List.{List, [], _∷_, _++_}
 use mathlib.Core.Option.{Option, none, some}
 use lib.ListN.{length}
@@ -14,6 +15,11 @@ infixr 60 _then_
 pub data Verdict : Type 0 where
   fine : Verdict
   bad : Refusal → Verdict
+
+-- whether nothing is refused
+abbrev pub isFine : Verdict → Bool
+isFine fine = true
+isFine (bad r) = false
 
 -- 01: "front to back": the first refusal of two
 unfoldable pub first : Verdict → Verdict → Verdict

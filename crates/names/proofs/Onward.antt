@@ -63,9 +63,6 @@ reached-first s e n q =
 pub first-stops : (s : Text) (i : ℕ) → firstStep s ≡ Stops i → readName s ≡ stops i
 first-stops s i q = subst (FirstTells s) q (first-tells s)
 
-pub first-ends : (s : Text) → firstStep s ≡ End → ⊥
-first-ends s q = subst (FirstTells s) q (first-tells s)
-
 module _ (s : Text) (at : ℕ) (us : List Token) (c : Reached s at us) where
   -- they end there
   pub reached-spelled : spelling us ≡ take at s

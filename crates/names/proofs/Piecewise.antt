@@ -132,7 +132,7 @@ module _ (t : Text) (at e k : ℕ) (q : k ≡ scan (isNot 93) t 0) where
           rw (eq-eqb (2 + k) (1 + length t) w) (ap (Token e) (ap length (key-indexes is) ∙ m))
 
 -- ---- the program part
-program-test : (s : Text) → length s < 8 → inProgram s ≡ false
+pub program-test : (s : Text) → length s < 8 → inProgram s ≡ false
 unfolding inProgram
 program-test s h = go (alike (take 8 s) (bytes "program:")) refl
   where

@@ -44,7 +44,7 @@ unfolding textOf
 later-texts [] h = tt
 later-texts (t ∷ ts) h = (h .0 .opens, later-texts ts (h .1))
 
-read-later : (ts : List Token) (i : ℕ) → All LaterToken ts → laterTokens (map textOf ts) i ≡ tokens ts
+pub read-later : (ts : List Token) (i : ℕ) → All LaterToken ts → laterTokens (map textOf ts) i ≡ tokens ts
 unfolding laterTokens following before textOf
 read-later [] i h = refl
 read-later (t ∷ ts) i h = rw (h .0 .read, read-later ts (i + length (t .text)) (h .1))

@@ -23,7 +23,7 @@ use Rattle.nesting.proofs.Rounds.{over-few, over-none}
 zero-left : (n : ℕ) → 0 + n ≡ n
 zero-left n = omega arith
 
-there : (ds : List TypeDef) (k : ℕ) (d : TypeDef) → getElem? ds k ≡ some d → k < length ds
+pub there : (ds : List TypeDef) (k : ℕ) (d : TypeDef) → getElem? ds k ≡ some d → k < length ds
 there [] k d e = absurd (Option·none-ne-some d e)
 there (x ∷ ds) zero d e = omega arith
 there (x ∷ ds) (suc k) d e = let h = there ds k d e in omega arith

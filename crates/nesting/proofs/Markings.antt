@@ -4,10 +4,10 @@
 use mathlib.Core.Path.{_≡_, refl, sym, ap, _∙_}
 use mathlib.Core.Bool.{Bool, true, false}
 use mathlib.Core.List.{List, [], _∷_, _++_}
-use Prim.Native.Nat.{ℕ, zero, suc, _+_, _-_, _≤_, _<_}
+use Prim.Native.Nat.{ℕ, _+_, _-_, _≤_, _<_}
 use native.Mathlib.Omega.{arith}
 use native.Mathlib.Numerals.{add-one}
-use lib.ListN.{length, getD, set, take, drop, replicate}
+use lib.ListN.{length, set, take, drop, replicate}
 use lib.Seq.{set-split, append-snoc}
 use borrow.Author.Tests.{le-leb, lt-leb}
 use Rattle.fields.specs.Writing.{patch}
@@ -17,6 +17,7 @@ use Rattle.nesting.specs.Graph.{Graph, tables, overAt, wholeAt, firstOve
 use Rattle.nesting.specs.Marks.{Memo, Ready, Walked}
 use Rattle.nesting.proofs.Ranges.{length-marks, marks-start, marks-more, marks-end}
 use Rattle.nesting.proofs.Rounds.{over-none, first-aside}
+use Rattle.fields.proofs.Lists.{zeros}
 
 -- ---- where nothing is written
 
@@ -45,11 +46,6 @@ pub record Making (g : Graph) (old out memo : List ℕ) (k : ℕ) : Type 0 where
   pub filling : Filling (wholeMarks g) old out k (marksFrom (wholeAt 16 g) (g .count - k) k)
   pub size : length out ≡ length old
   pub memo-size : length memo ≡ 128
-
-zeros : (n k : ℕ) → getD (replicate {A = ℕ} n 0) k 0 ≡ 0
-zeros zero k = refl
-zeros (suc n) zero = refl
-zeros (suc n) (suc k) = zeros n k
 
 memo-start : (g : Graph) → g .count ≤ 128 → Memo g (replicate 128 0)
 memo-start g h = record {

@@ -8,7 +8,7 @@ use mathlib.Core.List.{List, [], _∷_}
 use native.Mathlib.Omega.{arith}
 use lib.ListN.{length}
 use Rattle.fields.specs.Text.{Text, same, alike}
-use Rattle.fields.specs.Format.{Verdict, fine, bad, first, many}
+use Rattle.fields.specs.Format.{Verdict, fine, bad, first, many, isFine}
 use Rattle.fields.specs.Fields.{number}
 use Rattle.fields.specs.Places.{valueAt, placeAt, placesFrom}
 use Rattle.fields.specs.declared.Refusal.{Refusal}
@@ -24,31 +24,16 @@ use Rattle.catalog.specs.Check.{catalogVerdict, differ, nodeNames, typeNames, m
 use Rattle.catalog.proofs.Round.{lawful-node, lawful-type, catalog-accepted, catalog-accepts}
 use Rattle.nodes.proofs.Finds.{node-name, tags-are}
 use Rattle.nodes.proofs.Standing.{type-name, types-are, type-places-count, members-left}
+use Rattle.fields.proofs.Verdicts.{fine-is, first-is}
+use borrow.Author.Tests.{not-true}
 
 -- ---- verdicts as tests
-abbrev isFine : Verdict → Bool
-isFine fine = true
-isFine (bad r) = false
-
-fine-is : (v : Verdict) → isFine v ≡ true → v ≡ fine
-fine-is fine e = refl
-fine-is (bad r) e = let z : _≡_ {A = ℕ} 0 1 = cc in absurd (omega arith)
-
 is-fine : (v : Verdict) → v ≡ fine → isFine v ≡ true
 is-fine v e = ap isFine e
-
-first-is : (u v : Verdict) → isFine (first u v) ≡ isFine u && isFine v
-unfolding first
-first-is fine v = refl
-first-is (bad r) v = refl
 
 both : (a b : Bool) → a && b ≡ true → (a ≡ true) × (b ≡ true)
 both true b e = (refl, e)
 both false b e = let z : _≡_ {A = ℕ} 0 1 = cc in absurd (omega arith)
-
-not-is : (b : Bool) → not b ≡ true → b ≡ false
-not-is true e = let z : _≡_ {A = ℕ} 0 1 = cc in absurd (omega arith)
-not-is false e = refl
 
 -- one refusal more in front
 pick-is : (b : Bool) (r : Refusal) (v : Verdict) (d : Bool) → isFine v ≡ d → isFine (cond b (bad r) v) ≡ cond b false d
@@ -120,7 +105,7 @@ nesting-is s = none-deep (catalogOf s) (catalogOf s .types) (typePlaces s) (type
 
 -- a file that 7 does not refuse has no type nested too deep
 pub nesting-fine : (s : List ℕ) → nestingVerdict s ≡ fine → any (nestsOver deepest (catalogOf s)) (catalogOf s .types) ≡ false
-nesting-fine s e = not-is _ (sym (nesting-is s) ∙ is-fine (nestingVerdict s) e)
+nesting-fine s e = not-true _ (sym (nesting-is s) ∙ is-fine (nestingVerdict s) e)
 
 -- ---- whole files
 -- 6 and 7 pass a file that spells an acceptable catalog

@@ -58,7 +58,7 @@ told-nowhere none e = refl
 told-nowhere (some q) e = let z : _≡_ {A = ℕ} 0 1 = cc in absurd (omega arith)
 
 -- ---- the name at a place
-text-name : (s : List ℕ) (at a b : ℕ) → part a b s ≡ textOf (drop at s) → part a b s ≡ nameAt s at
+pub text-name : (s : List ℕ) (at a b : ℕ) → part a b s ≡ textOf (drop at s) → part a b s ≡ nameAt s at
 unfolding nameAt
 text-name s at a b e = e ∙ sym (text-value s at 128)
 

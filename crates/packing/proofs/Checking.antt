@@ -17,6 +17,7 @@ use Rattle.fields.proofs.Lists.{drop-next, drop-past}
 use Rattle.fields.proofs.Chains.{told-bad, told-good}
 use Rattle.fields.specs.Files.{countsVerdict}
 use Rattle.packing.specs.Tables.{largestEntry, mostEntries, entriesVerdict, tableVerdict, tablesVerdict}
+use Rattle.fields.proofs.Lawful.{first-fine}
 
 -- ---- one table
 
@@ -84,11 +85,6 @@ module _ (t u : List ℕ) where
           ap (λ k. Refused (CountsDiffer k)) m ∙ sym (tables-counts ∙ w)
 
 -- ---- what tables that pass hold
-
-first-fine : (v w : Verdict) → first v w ≡ fine → (v ≡ fine) × (w ≡ fine)
-unfolding first
-first-fine fine w e = (refl, e)
-first-fine (bad r) w e = let z : _≡_ {A = ℕ} 0 1 = cc in absurd (omega arith)
 
 pub told-fine : (v : Verdict) (p q : ℕ) → told v p ≡ Good q → (v ≡ fine) × (q ≡ p)
 unfolding told

@@ -1,12 +1,12 @@
 -- What a budget holds: a read goes alone just when a packet of its own does not hold it, and smaller reads fit where larger ones do.
 -- Assumes nothing.
-use mathlib.Core.Path.{_≡_, refl}
-use mathlib.Core.Bool.{Bool, true, false, _&&_, _||_, true≢false}
+use mathlib.Core.Path.{_≡_}
+use mathlib.Core.Bool.{Bool, true, false, _&&_, _||_}
 use Prim.Native.Nat.{ℕ, _+_, _≤_, _<_}
 use native.Mathlib.Omega.{arith}
 use lib.Dec.{leb, ltb}
 use borrow.Author.Tests.{ltb-false, le-ltb, leb-true, le-leb, lt-leb}
-use Rattle.fields.proofs.Lists.{and-left, and-right}
+use Rattle.fields.proofs.Lists.{and-left, and-right, either-false}
 use Rattle.sizes.specs.Sizes.{Size}
 use Rattle.packing.specs.declared.Cost.{Cost}
 use Rattle.packing.specs.Packing.{empty, plus, fits, goesAlone}
@@ -33,10 +33,6 @@ pub under-same : (a : Size) → Under a a
 under-same a = record { request = omega arith; reply = omega arith }
 
 -- ---- tests
-either-false : (x y : Bool) → (x || y) ≡ false → (x ≡ false) × (y ≡ false)
-either-false true y e = absurd (true≢false e)
-either-false false y e = (refl, e)
-
 neither : (x y : Bool) → x ≡ false → y ≡ false → (x || y) ≡ false
 neither x y e f = rw (e, f)
 

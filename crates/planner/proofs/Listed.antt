@@ -37,6 +37,12 @@ fair-tags c w before (t ∷ ts) h = (
   fair-tags c w (before ++ t ∷ []) ts (h .1),
 )
 
+-- there are as many as are listed
+pub tags-long : (c : Catalog) (w : TagList) (before ts : List Text) → length (tagsBehind c w before ts) ≡ length ts
+unfolding tagsBehind
+tags-long c w before [] = refl
+tags-long c w before (t ∷ ts) = ap suc (tags-long c w (before ++ t ∷ []) ts)
+
 nothing-fair : Fair noTag
 unfolding noTag tokensOf listed readName allTokens isName nameLength programLength inProgram alike same lowered lower between pieces
 nothing-fair = record { long = omega arith; printed = tt; small = tt; tokens = refl }
@@ -46,7 +52,7 @@ unfolding tagAt
 fair-at g p h = each-getD Fair (g .tags) p noTag h nothing-fair
 
 -- ---- the tokens of a tag
-read-of : (r : Reading) → 1 ≤ length (listed r) → r ≡ tokens (listed r)
+pub read-of : (r : Reading) → 1 ≤ length (listed r) → r ≡ tokens (listed r)
 unfolding listed
 read-of (tokens ts) h = refl
 read-of (stops i) h = absurd (omega arith)

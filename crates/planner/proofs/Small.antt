@@ -18,7 +18,7 @@ use Rattle.fields.specs.declared.Refusal.the-variants.{IndexTooLarge}
 use Rattle.fields.proofs.Lists.{cond-elim}
 use Rattle.fields.proofs.Texts.{between-inside, lower-cases, lower-other, between-below, Caseless, eqb-lower}
 use Rattle.fields.proofs.Scans.{passes-other}
-use Rattle.fields.proofs.Decimals.{digit-range, digits-more, digits-first, digit-lower, digits-are-digits, decimal-value}
+use Rattle.fields.proofs.Decimals.{digit-range, digits-more, digits-first, digit-lower, digits-are-digits, decimal-value, value-grows}
 
 -- no digits behind the opening of an index spell a number above `most`
 abbrev pub Small : ℕ → Text → Type 0
@@ -53,11 +53,6 @@ small-more most more [] l h = tt
 small-more most more (b ∷ r) l h = (λ o. le-trans (h .0 o) l, small-more most more r l (h .1))
 
 -- ---- parts of a text
-value-grows : (t : Text) (n : ℕ) → n ≤ valueFrom n t
-unfolding valueFrom
-value-grows [] n = omega arith
-value-grows (b ∷ r) n = let h = value-grows r (n * 10 + (b - 48)) in omega arith
-
 front-value : (x y : Text) (n : ℕ) → valueFrom n (leadingDigits x) ≤ valueFrom n (leadingDigits (x ++ y))
 unfolding leadingDigits valueFrom
 front-value [] y n = value-grows (leadingDigits y) n

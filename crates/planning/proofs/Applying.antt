@@ -24,9 +24,9 @@ use Rattle.planning.specs.Tables.{groupAt, Reading, groupBy, Kinded}
 use Rattle.planning.specs.Merges.{coveredBy, Modest, Applied}
 use Rattle.planning.specs.Choosing.{Tells}
 use Rattle.planning.proofs.Flagging.{flagsBy, flagged-kept, closed-placed, closed-front, column-kept, column-placed, map-closed, all-closed}
-use Rattle.planning.proofs.Keys.{front-is}
 use Rattle.planning.proofs.Positions.{reads-are}
 use Rattle.planning.proofs.Weighing.{merge-is, told-request, told-reply, told-new}
+use Rattle.fields.proofs.Patches.{answer-front}
 
 -- ---- what reads serve together
 length-served : (rs : List Pending) → length (servedBy rs) ≡ total (λ r. length (r .serves)) rs
@@ -34,7 +34,7 @@ unfolding servedBy joined total
 length-served [] = refl
 length-served (r ∷ rs) = length-append (r .serves) (servedBy rs) ∙ ap (λ n. length (r .serves) + n) (length-served rs)
 
-sum-lengths : (rs : List Pending) → sum (map (λ r. length (r .serves)) rs) ≡ length (servedBy rs)
+pub sum-lengths : (rs : List Pending) → sum (map (λ r. length (r .serves)) rs) ≡ length (servedBy rs)
 unfolding servedBy joined sum
 sum-lengths [] = refl
 sum-lengths (r ∷ rs) = ap (λ n. length (r .serves) + n) (sum-lengths rs) ∙ sym (length-append (r .serves) (servedBy rs))
@@ -94,7 +94,7 @@ module _ (g : Given) (rs : List Pending) (k : Group) where
     column-after : (f : Pending → ℕ) (column column′ : List ℕ) (v r : ℕ) → take (length rs) column ≡ map f rs → v ≡ f made → column′ ≡ answered (closed (take count covered) v column) column
         → r ≡ length after → take r column′ ≡ map f after
     column-after f column column′ v r t e a l =
-        front-is (map f after) column column′ r (l ∙ sym (length-map after f)) (a ∙ ap (λ x. answered x column) (closed-after f column v t e))
+        answer-front (map f after) column column′ r (a ∙ ap (λ x. answered x column) (closed-after f column v t e)) (l ∙ sym (length-map after f))
 
     module _ (members lens requests replies : List ℕ) (rd : Reading rs members lens requests replies count) where
       -- the positions
@@ -149,7 +149,7 @@ module _ (g : Given) (rs : List Pending) (k : Group) where
               counted = sym c;
               few = omega arith;
               served = omega arith;
-              membered = front-is (servedBy after) members members′ (length (servedBy after)) refl (me ∙ ap (λ x. answered x members) regrouped-after);
+              membered = answer-front (servedBy after) members members′ (length (servedBy after)) (me ∙ ap (λ x. answered x members) regrouped-after) refl;
               lengths = column-after (λ x. length (x .serves)) lens lens′ n r (told-column (λ x. length (x .serves)) lens (rd .lengths)) (total-after n ne) le c;
               requested = column-after (λ x. x .size .request) requests requests′ request r (told-column (λ x. x .size .request) requests (rd .requested)) q qe c;
               replied = column-after (λ x. x .size .reply) replies replies′ reply r (told-column (λ x. x .size .reply) replies (rd .replied)) p pe c;
@@ -186,7 +186,7 @@ module _ (g : Given) (bs : List Bunch) (rs : List Pending) (j : ℕ) (h : j < le
       let l : length closedKinds ≡ length (after g rs (groupAt g bs j)) =
       sym (length-map closedKinds (groupBy g bs)) ∙ ap length groups-after ∙ length-map (after g rs (groupAt g bs j)) (λ x. x .group)
       in
-      front-is closedKinds kinds kinds′ r (re ∙ sym l) (ke ∙ ap (λ x. answered x kinds) closed-kinds)
+      answer-front closedKinds kinds kinds′ r (ke ∙ ap (λ x. answered x kinds) closed-kinds) (re ∙ sym l)
 
   kinded-after : Kinded g bs (after g rs (groupAt g bs j)) kinds′ r
   kinded-after = record {

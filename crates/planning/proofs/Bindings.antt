@@ -9,11 +9,9 @@ use mathlib.Core.List.{List, map, map-map}
 use lib.Dec.{eqb}
 use lib.ListN.{length}
 use Rattle.fields.specs.Format.{All}
-use Rattle.fields.specs.Text.{Text}
 use Rattle.fields.proofs.Lists.{all-weaken}
-use Rattle.names.specs.Name.{Reading, tokens, stops, readName, listed, tokensOf}
+use Rattle.names.specs.Name.{tokensOf}
 use Rattle.names.specs.Pieces.{joined}
-use Rattle.names.proofs.Spelling.{few-tokens}
 use Rattle.catalog.specs.Catalog.{Catalog}
 use Rattle.packing.specs.declared.Cost.{Cost}
 use Rattle.packing.specs.Packing.{empty}
@@ -33,17 +31,7 @@ use Rattle.planning.specs.Tables.{namesIn}
 use Rattle.planning.specs.Merges.{isBinding, bindingAt, bindingOf}
 use Rattle.planning.specs.Stages.{firstsIn, structsIn}
 use Rattle.planning.proofs.Tagged.{listing, all-fair}
-
--- ---- how many tokens
-
--- a name of at most 128 bytes has at most 64 tokens
-pub tokens-few : (s : Text) → length s ≤ 128 → length (tokensOf s) ≤ 64
-unfolding tokensOf listed
-tokens-few s l = go (readName s) refl
-  where
-    go : (r : Reading) → readName s ≡ r → length (listed r) ≤ 64
-    go (tokens ts) e = omega (arith, few-tokens s ts e)
-    go (stops i) e = omega arith
+use Rattle.considered.proofs.Listing.{tokens-few}
 
 -- ---- level by level
 

@@ -1,7 +1,7 @@
 -- The columns of the groups as they are filled: first those of the structs from the front on, then those of the runs behind them. Together
 -- they tell all groups.
 -- Assumes nothing.
-use Prim.Native.Nat.{ℕ, suc, _+_, _≤_, _<_}
+use Prim.Native.Nat.{ℕ, _+_, _≤_, _<_}
 use native.Mathlib.Omega.{arith}
 use mathlib.Core.Path.{_≡_, refl, sym, ap, ap₂, _∙_}
 use mathlib.Core.List.{List, [], _∷_, _++_, map, map-append, append-assoc}
@@ -23,6 +23,7 @@ use Rattle.planning.specs.Tables.{namesIn, Grouped, Spelled}
 use Rattle.planning.specs.Stages.{structsIn, runsAmong, bunchesIn, Elemental}
 use Rattle.planning.proofs.Soundness.{Below, structs-unnumbered, groups-sound, groups-within}
 use Rattle.planning.proofs.Starting.{take-replicate}
+use Rattle.candidates.proofs.Laying.{length-ends, ends-append}
 
 -- ---- one column
 
@@ -41,19 +42,6 @@ joined-both : (xs ys : List (List ℕ)) → joined (xs ++ ys) ≡ joined xs ++ j
 unfolding joined
 joined-both [] ys = refl
 joined-both (x ∷ xs) ys = ap (λ r. x ++ r) (joined-both xs ys) ∙ sym (append-assoc x (joined xs) (joined ys))
-
-pub count-ends : (at : ℕ) (xs : List (List ℕ)) → length (endsFrom at xs) ≡ length xs
-unfolding endsFrom
-count-ends at [] = refl
-count-ends at (x ∷ xs) = ap suc (count-ends (at + length x) xs)
-
--- the ends of two rows, the second starting where the first ends
-ends-both : (at : ℕ) (xs ys : List (List ℕ)) → endsFrom at (xs ++ ys) ≡ endsFrom at xs ++ endsFrom (at + length (joined xs)) ys
-unfolding endsFrom joined
-ends-both at [] ys = let z : at + 0 ≡ at = omega arith in rw z
-ends-both at (x ∷ xs) ys =
-    let z : at + length (x ++ joined xs) ≡ at + length x + length (joined xs) = omega (arith, length-append x (joined xs)) in
-    rw z (ap (λ r. (at + length x) ∷ r) (ends-both (at + length x) xs ys))
 
 -- ---- the columns of structs and runs
 
@@ -94,13 +82,13 @@ module _ (ws us : List Bunch) where
   stops-filled out new t e l =
       let A = endsFrom 0 (servesOf ws) in
       let B = endsFrom (length (joined (servesOf ws))) (servesOf us) in
-      let m : length A ≡ length ws = count-ends 0 (servesOf ws) ∙ length-map ws (λ b. b .serves) in
-      let n : length B ≡ length us = count-ends (length (joined (servesOf ws))) (servesOf us) ∙ length-map us (λ b. b .serves) in
+      let m : length A ≡ length ws = length-ends 0 (servesOf ws) ∙ length-map ws (λ b. b .serves) in
+      let n : length B ≡ length us = length-ends (length (joined (servesOf ws))) (servesOf us) ∙ length-map us (λ b. b .serves) in
       let c : length (ws ++ us) ≡ length ws + length B = omega (arith, length-append ws us) in
       let z : 0 + length (joined (servesOf ws)) ≡ length (joined (servesOf ws)) = omega arith in
       ap₂ take c e
       ∙ column-filled A B out (length ws) (sym m) t (omega arith)
-      ∙ sym (ap (endsFrom 0) (map-append (λ b. b .serves) ws us) ∙ ends-both 0 (servesOf ws) (servesOf us) ∙ ap (λ n. A ++ endsFrom n (servesOf us)) z)
+      ∙ sym (ap (endsFrom 0) (map-append (λ b. b .serves) ws us) ∙ ends-append 0 (servesOf ws) (servesOf us) ∙ ap (λ n. A ++ endsFrom n (servesOf us)) z)
 
   -- and these positions
   pub serves-filled : (out new : List ℕ) → take (length (joined (servesOf ws))) out ≡ joined (servesOf ws)

@@ -5,30 +5,29 @@ use Prim.Native.Nat.{ℕ, _+_, _-_, _≤_, _<_}
 use native.Mathlib.Omega.{arith}
 use mathlib.Core.Path.{_≡_, refl, sym, ap, ap₂, subst, _∙_}
 use mathlib.Core.List.{List, [], _∷_, _++_, map}
-use lib.ListN.{length, take, drop, length-append, length-take, length-map}
-use lib.Seq.{take-take, take-append-seam, drop-append-seam}
+use lib.ListN.{length, take, drop, length-take, length-map}
 use Rattle.fields.specs.Text.{Text}
-use Rattle.fields.specs.Format.{All, leading, many, manyLay, mapped, _then_}
+use Rattle.fields.specs.Format.{All, leading, many, manyLay}
 use Rattle.fields.specs.Fields.{digits, number, numeric, counted}
 use Rattle.fields.specs.Places.{part}
 use Rattle.fields.specs.Files.{fileLay}
-use Rattle.fields.proofs.Lists.{drop-take, all-weaken}
+use Rattle.fields.proofs.Lists.{all-weaken}
 use Rattle.names.specs.Pieces.{joined}
 use Rattle.catalog.specs.Catalog.{Catalog}
 use Rattle.packing.specs.declared.Cost.{Cost}
-use Rattle.lists.specs.Lists.{TagList, tagList, tag}
+use Rattle.lists.specs.Lists.{TagList}
 use Rattle.plans.specs.Plans.{read, layout}
 use Rattle.planner.specs.Lists.{sum}
-use Rattle.planner.specs.Tags.{tagsBehind, tagsOf}
+use Rattle.planner.specs.Tags.{tagsOf}
 use Rattle.planner.specs.Merging.{Pending, Given, servedBy}
 use Rattle.planner.specs.Plan.{written, finalReads, givenOf, planOf}
 use Rattle.planner.proofs.Each.{each-both}
 use Rattle.planner.proofs.Shaped.{Shaped, plan-shaped}
 use Rattle.planner.proofs.Leads.{IfStruct, plan-leads}
 use Rattle.planner.proofs.Runs.{IfRun, plan-runs}
-use Rattle.planner.proofs.Listed.{Fair, fair-tags}
+use Rattle.planner.proofs.Listed.{Fair, fair-tags, tags-long}
 use Rattle.planner.proofs.Bytes.{each-few}
-use Rattle.planner.proofs.Writable.{plan-writable}
+use Rattle.planner.proofs.Writable.{plan-writable, listed-within}
 use Rattle.candidates.specs.Columns.{Bunch, bunchName}
 use Rattle.pending.specs.declared.Pending.{Pending as Row}
 use Rattle.planning.specs.Tables.{namesIn, bunchAt, groupBy, lensIn, kindsIn}
@@ -36,27 +35,14 @@ use Rattle.planning.specs.Writing.{Worded, Final, Telling}
 use Rattle.planning.specs.Put.{Columns, columnsOf, ToldFit, Laid, laidBy, readsBytes, planBytes}
 use Rattle.planning.proofs.Tabled.{map-front}
 use Rattle.planning.proofs.Told.{Known, ReadTold, read-told}
+use Rattle.planning.proofs.Positions.{halves}
+use Rattle.planning.proofs.Applying.{sum-lengths}
 
 -- a read that can be written
 abbrev pub Fit : Columns → Laid → Type 0
 Fit t x = ToldFit t x
 
 -- ---- rows of numbers
--- a row that starts with `x`, then `y`
-split-row : (x y ms : List ℕ) → take (length (x ++ y)) ms ≡ x ++ y → (take (length x) ms ≡ x) × (take (length y) (drop (length x) ms) ≡ y)
-split-row x y ms e =
-    let n = length-append x y in
-    let m : length (x ++ y) - length x ≡ length y = omega arith in
-    let d : take (length (x ++ y) - length x) (drop (length x) ms) ≡ y = sym (drop-take (length x) (length (x ++ y)) ms) ∙ ap (drop (length x)) e ∙ drop-append-seam x y in (
-      sym (take-take (length x) (length (x ++ y)) ms (omega arith)) ∙ ap (take (length x)) e ∙ take-append-seam x y,
-      rw m at d,
-    )
-
-sum-served : (rs : List Pending) → sum (map (λ r. length (r .serves)) rs) ≡ length (servedBy rs)
-unfolding sum servedBy joined
-sum-served [] = refl
-sum-served (r ∷ rs) = let a = length-append (r .serves) (servedBy rs) in omega (arith, sum-served rs)
-
 cons-same : {A : Type 0} (x y : A) (xs ys : List A) → x ∷ xs ≡ y ∷ ys → (x ≡ y) × (xs ≡ ys)
 cons-same x y xs ys e = (cc, cc)
 
@@ -73,21 +59,11 @@ module _ (g : Given) (bs : List Bunch) (t : Columns) (list : List ℕ)
   reads-told (r ∷ rs) (p ∷ ps) ms a l e c d m =
       let k = cons-same (groupBy g bs (p .group)) (r .group) (map (groupBy g bs) (kindsIn ps)) (map (λ x. x .group) rs) e in
       let n = cons-same (p .count) (length (r .serves)) (lensIn ps) (map (λ x. length (x .serves)) rs) c in
-      let s = split-row (r .serves) (servedBy rs) ms m in
+      let s = halves (r .serves) (servedBy rs) ms m in
       let h = tell r (a .0) (p .group) (part (p .start) (p .end) list) (l .0) (k .0) (d .0 .name) in
       let q : take (p .count) ms ≡ r .serves = ap (λ x. take x ms) (n .0) ∙ s .0 in
       let later = reads-told rs ps (drop (length (r .serves)) ms) (a .1) (l .1) (k .1) (n .1) (d .1) (s .1) in
       rw (n .0, s .0) (ap₂ _++_ (h .bytes) (later .0), (h .fit, later .1))
-
--- ---- the list
-listed-within : (w : TagList) → tagList .within w → (length (w .tags) ≤ 256) × All (tag .within) (w .tags)
-unfolding tagList mapped _then_ counted leading number numeric many
-listed-within w h = (h .1 .1 .1 .1 .0, h .1 .1 .1 .1 .1 .1)
-
-tags-long : (c : Catalog) (w : TagList) (before ts : List Text) → length (tagsBehind c w before ts) ≡ length ts
-unfolding tagsBehind
-tags-long c w before [] = refl
-tags-long c w before (x ∷ ts) = let h = tags-long c w (before ++ x ∷ []) ts in omega arith
 
 -- ---- what the writer of a plan is told
 pub record Ready (t : Columns) (list : List ℕ) (table : List Row) (members : List ℕ) (count : ℕ) : Type 0 where
@@ -152,7 +128,7 @@ module _ (list places indexes numbers members : List ℕ) (table : List Row) (co
         let b₃ = length-take count table in
         let d = ap length (f .reading .membered) in
         let d₁ = length-take (length (servedBy rs)) members in
-        let s = ap sum lens ∙ sum-served rs in
+        let s = ap sum lens ∙ sum-lengths rs in
         record {
           few = f .reading .few;
           counted = omega arith;

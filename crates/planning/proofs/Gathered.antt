@@ -8,11 +8,11 @@ use mathlib.Core.Bool.{Bool, true, false, not}
 use mathlib.Core.List.{List, [], _∷_, _++_, map, map-map}
 use lib.ListN.{length, take, getD, length-append, length-map, replicate}
 use lib.Seq.{getD-take}
-use borrow.Author.Tests.{le-leb, ne-eqb}
+use borrow.Author.Tests.{le-leb, ne-eqb, not-true}
 use Rattle.fields.specs.Text.{Text, same}
 use Rattle.fields.specs.Writing.{patch, answered}
 use Rattle.fields.proofs.Lists.{all-weaken}
-use Rattle.fields.proofs.Patches.{length-answered}
+use Rattle.fields.proofs.Patches.{length-answered, answer-front}
 use Rattle.names.specs.Pieces.{joined}
 use Rattle.catalog.specs.Catalog.{catalogOf}
 use Rattle.packing.specs.Packing.{standard}
@@ -31,14 +31,10 @@ use Rattle.planning.specs.Choosing.{servedFrom}
 use Rattle.planning.specs.Stages.{firstsIn, structsIn, runsAmong, planningOf, Viewed, Pieced, Rowed, Wholes, Bunched}
 use Rattle.planning.proofs.Tagged.{few-tags}
 use Rattle.planning.proofs.Agreeing.{structs-agree, runs-agree}
-use Rattle.planning.proofs.Answered.{take-answered}
-use Rattle.planning.proofs.Filled.{count-ends, groups-told, groups-spelled}
+use Rattle.planning.proofs.Filled.{groups-told, groups-spelled}
+use Rattle.candidates.proofs.Laying.{length-ends}
 
 -- ---- the positions under all structs
-
-turned : (b : Bool) → not b ≡ true → b ≡ false
-turned true e = sym e
-turned false e = refl
 
 module _ (nm : ℕ → Text) (first : ℕ → Bool) where
   -- the first rows have keys that differ
@@ -49,7 +45,7 @@ module _ (nm : ℕ → Text) (first : ℕ → Bool) where
       let other : Row → Bool = λ x. not (same (rowKey nm r) (rowKey nm x)) in
       let P : Row → Type 0 = λ x. Unit {0} in (
         all-weaken (λ x. P x × (other x ≡ true)) (λ x. same (rowKey nm r) (rowKey nm x) ≡ false) (keep other (firstRows nm rs))
-            (λ x h. turned (same (rowKey nm r) (rowKey nm x)) (h .1)) (each-kept P other (firstRows nm rs) (each-of P (firstRows nm rs) (λ x a. tt))),
+            (λ x h. not-true (same (rowKey nm r) (rowKey nm x)) (h .1)) (each-kept P other (firstRows nm rs) (each-of P (firstRows nm rs) (λ x a. tt))),
         apart-keep (rowKey nm) other (firstRows nm rs) (firsts-apart rs),
       )
 
@@ -69,10 +65,6 @@ module _ (nm : ℕ → Text) (first : ℕ → Bool) where
       omega arith
 
 -- ---- the columns of the structs
-
--- what was answered from the front on
-front-told : (X old out : List ℕ) (n : ℕ) → n ≡ length X → out ≡ answered X old → take n out ≡ X
-front-told X old out n e f = ap₂ take e f ∙ take-answered X old
 
 module _ (catalog list places firsts widths indexes arrays : List ℕ) (p : Pieced catalog list places firsts widths indexes arrays) where
   abbrev g : Given
@@ -111,7 +103,7 @@ module _ (catalog list places firsts widths indexes arrays : List ℕ) (p : Piec
     group-told spellers₀ spans₀ weights₀ stops₀ serves₀ spellers spans weights stops serves structs l₁ l₂ l₃ l₄ l₅ n e₁ e₂ e₃ e₄ e₅ =
         let c : structs ≡ length ws = n .0 ∙ ap length wholes-are in
         let along : (f : Bunch → ℕ) (old out : List ℕ) → out ≡ answered (map f wholes) old → take structs out ≡ map f ws =
-        λ f old out e. front-told (map f ws) old out structs (c ∙ sym (length-map ws f)) (e ∙ ap (λ x. answered (map f x) old) wholes-are)
+        λ f old out e. answer-front (map f ws) old out structs (e ∙ ap (λ x. answered (map f x) old) wholes-are) (c ∙ sym (length-map ws f))
         in
         let S = map (λ b. b .serves) ws in
         let size : (f : Bunch → ℕ) (old out : List ℕ) → length old ≡ 8448 → out ≡ answered (map f wholes) old → length out ≡ 8448 =
@@ -119,7 +111,7 @@ module _ (catalog list places firsts widths indexes arrays : List ℕ) (p : Piec
         in
         let T = endsFrom 0 (map (λ b. b .serves) wholes) in
         let J = joined (map (λ b. b .serves) wholes) in
-        let t : length T ≡ length wholes = count-ends 0 (map (λ b. b .serves) wholes) ∙ length-map wholes (λ b. b .serves) in
+        let t : length T ≡ length wholes = length-ends 0 (map (λ b. b .serves) wholes) ∙ length-map wholes (λ b. b .serves) in
         let j : length J ≡ length (joined S) = ap (λ x. length (joined (map (λ b. b .serves) x))) wholes-are in
         record {
           long-spellers = size (λ b. b .tag) spellers₀ spellers l₁ e₁;
@@ -134,9 +126,8 @@ module _ (catalog list places firsts widths indexes arrays : List ℕ) (p : Piec
           ends = along (λ b. b .end) spans₀ spans e₂;
           sizes = along (λ b. b .weight) weights₀ weights e₃;
           served =
-              front-told (endsFrom 0 S) stops₀ stops structs (c ∙ sym (count-ends 0 S ∙ length-map ws (λ b. b .serves)))
-              (e₄ ∙ ap (λ x. answered (endsFrom 0 (map (λ b. b .serves) x)) stops₀) wholes-are);
-          positions = front-told (joined S) serves₀ serves (length (joined S)) refl (e₅ ∙ ap (λ x. answered (joined (map (λ b. b .serves) x)) serves₀) wholes-are);
+              answer-front (endsFrom 0 S) stops₀ stops structs (e₄ ∙ ap (λ x. answered (endsFrom 0 (map (λ b. b .serves) x)) stops₀) wholes-are) (c ∙ sym (length-ends 0 S ∙ length-map ws (λ b. b .serves)));
+          positions = answer-front (joined S) serves₀ serves (length (joined S)) (e₅ ∙ ap (λ x. answered (joined (map (λ b. b .serves) x)) serves₀) wholes-are) refl;
         }
 
 -- ---- where the positions of the structs end

@@ -7,7 +7,6 @@ use mathlib.Core.List.{List, [], _∷_, _++_, append-assoc, append-nil}
 use native.Mathlib.Omega.{arith}
 use lib.ListN.{length, take, drop, getD, set, length-append, length-set}
 use lib.Dec.{eqb}
-use lib.Seq.{take-append-seam}
 use borrow.Author.Tests.{eq-eqb, ne-eqb}
 use Rattle.fields.specs.Text.{Text, lower, lowered, earlier}
 use Rattle.fields.specs.Decimal.{decimal}
@@ -22,6 +21,7 @@ use Rattle.planner.specs.Merging.{elementName}
 use Rattle.planner.proofs.Small.{decimal-short}
 use Rattle.planner.proofs.Names.{length-run}
 use Rattle.planning.specs.Choosing.{keyOf, runName}
+use Rattle.fields.proofs.Patches.{answer-front}
 
 -- ---- a piece put where what was written ends
 filled : (file old out out′ : List ℕ) (to at next : ℕ) (t rest : List ℕ) → Filling file old out to (t ++ rest) → out′ ≡ patch out at t → at ≡ to → next ≡ to + length t → Filling file old out′ next rest
@@ -111,10 +111,6 @@ module _ (name : List ℕ) (number : ℕ) (old : List ℕ) where
         filled-all file old out2 (length name + 1 + d) 280 g (k .sizes .0)
 
 -- ---- what stands at the front of a buffer
-pub front-is : (file old out : List ℕ) (n : ℕ) → n ≡ length file → out ≡ answered file old → take n out ≡ file
-unfolding answered
-front-is file old out n e a = ap₂ take e a ∙ take-append-seam file (drop (length file) old)
-
 -- it is all within a buffer of `m` bytes
 pub front-within : (file old out : List ℕ) (n m : ℕ) → (n ≡ length file) × (n ≤ m) → length old ≡ m → out ≡ answered file old → n ≤ length out
 unfolding answered
@@ -124,10 +120,10 @@ front-within file old out n m e l a =
     omega arith
 
 pub front-length : (file old out : List ℕ) (n : ℕ) → n ≡ length file → out ≡ answered file old → n ≡ length (take n out)
-front-length file old out n e a = e ∙ ap length (sym (front-is file old out n e a))
+front-length file old out n e a = e ∙ ap length (sym (answer-front file old out n a e))
 
 pub keys-compared : (k l old old′ out out′ : List ℕ) (n m : ℕ) (r : Bool) → n ≡ length k → out ≡ answered k old → m ≡ length l → out′ ≡ answered l old′ → r ≡ earlier (take n out) (take m out′) → r ≡ earlier k l
-keys-compared k l old old′ out out′ n m r e a f b q = q ∙ ap₂ earlier (front-is k old out n e a) (front-is l old′ out′ m f b)
+keys-compared k l old old′ out out′ n m r e a f b q = q ∙ ap₂ earlier (answer-front k old out n a e) (answer-front l old′ out′ m b f)
 
 -- ---- the name of a run
 run-parts : (a : Text) (s p : ℕ) → runName a s p ≡ a ++ ((91 ∷ []) ++ (decimal s ++ ((93 ∷ 123 ∷ []) ++ (decimal p ++ ((125 ∷ []) ++ [])))))

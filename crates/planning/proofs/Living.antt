@@ -11,7 +11,7 @@ use lib.Seq.{take-nil, getD-append-add}
 use borrow.Author.Tests.{eq-eqb, ne-eqb, le-leb, lt-leb}
 use Rattle.fields.specs.Places.{part, textPart}
 use Rattle.fields.specs.declared.Part.{Part}
-use Rattle.fields.proofs.Lists.{drop-past, part-first, part-length}
+use Rattle.fields.proofs.Lists.{drop-past, part-first, part-length, part-none}
 use Rattle.catalog.specs.Finding.{any}
 use Rattle.lists.specs.Lists.{listOf}
 use Rattle.planner.specs.Lists.{keep}
@@ -35,9 +35,6 @@ pub record Listing (list places serves : List ℕ) (from to end k : ℕ) : Type 
 
 pub listing-start : (list places serves : List ℕ) (from to end : ℕ) → Listing list places serves from to end from
 listing-start list places serves from to end = record { left = λ g n. refl }
-
-part-none : (s : List ℕ) (a b : ℕ) → b ≤ a → part a b s ≡ []
-part-none s a b h = let z : b - a ≡ 0 = omega arith in rw z
 
 module _ (list places serves : List ℕ) (from to end k : ℕ) (c : Listing list places serves from to end k) where
   pub listing-past : length serves ≤ k → ListedTold list places serves from to end false

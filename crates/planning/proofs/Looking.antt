@@ -24,6 +24,7 @@ use Rattle.planning.specs.Tables.{namesIn, noBunch, bunchAt, groupAt, Re
 use Rattle.planning.specs.Merges.{noOffer, Modest, livingOf, Chosen, Lookup, NextTold}
 use Rattle.planning.specs.Turns.{Holds, turned, heldAfter, TurnTold}
 use Rattle.planning.proofs.Offers.{modest-none}
+use Rattle.candidates.proofs.Kept.{keep-append}
 
 -- ---- lists, one element more
 drop-one : {A : Type 0} (l : List A) (j : ℕ) (d : A) → j < length l → drop j l ≡ getD l j d ∷ drop (j + 1) l
@@ -41,15 +42,6 @@ flagged-append (f ∷ fs) gs (x ∷ xs) ys e = go (eqb f 1) (flagged-append fs g
   where
     go : (b : Bool) → flagged (fs ++ gs) (xs ++ ys) ≡ flagged fs xs ++ flagged gs ys
         → cond b (x ∷ flagged (fs ++ gs) (xs ++ ys)) (flagged (fs ++ gs) (xs ++ ys)) ≡ cond b (x ∷ flagged fs xs) (flagged fs xs) ++ flagged gs ys
-    go true h = ap (λ l. x ∷ l) h
-    go false h = h
-
-keep-append : {A : Type 0} (p : A → Bool) (xs ys : List A) → keep p (xs ++ ys) ≡ keep p xs ++ keep p ys
-unfolding keep
-keep-append p [] ys = refl
-keep-append p (x ∷ xs) ys = go (p x) (keep-append p xs ys)
-  where
-    go : (b : Bool) → keep p (xs ++ ys) ≡ keep p xs ++ keep p ys → cond b (x ∷ keep p (xs ++ ys)) (keep p (xs ++ ys)) ≡ cond b (x ∷ keep p xs) (keep p xs) ++ keep p ys
     go true h = ap (λ l. x ∷ l) h
     go false h = h
 

@@ -28,6 +28,7 @@ use Rattle.planning.specs.Turns.{FlagTold, wholeOffer, runOffer}
 use Rattle.planning.proofs.Flagging.{flagsBy, flagged-kept, column-kept}
 use Rattle.planning.proofs.Entries.{entry-is, sound-at}
 use Rattle.planning.proofs.Positions.{reads-are, covered-each}
+use Rattle.sizes.proofs.Bounds.{index-bound}
 
 -- ---- the offer of a run
 module _ (j saved before ask weight from to : ℕ) where
@@ -50,10 +51,6 @@ run-fits n weight h l =
 pub modest-none : (j : ℕ) (r : Offer) → j < 8448 → r ≡ noOffer j → Modest r
 modest-none j r h e = subst Modest (sym e) (record { group = h; saved = omega arith; before = omega arith; request = omega arith; reply = omega arith })
 
-index-small : (i : ℕ) → indexSize i ≤ 4
-unfolding indexSize
-index-small i = cond-elim (λ (n : ℕ). n ≤ 4) (ltb i 256) (λ _. omega arith) (λ _. omega arith)
-
 module _ (j saved before ask weight : ℕ) (r : Offer) (h : j < 8448) (s : saved ≤ 255) (b : before ≤ 281474976710656) (a : ask < 65536) (w : weight < 65536) where
   pub modest-whole : r ≡ wholeOffer j saved before ask weight → Modest r
   modest-whole e = subst Modest (sym e) (record { group = h; saved = s; before = b; request = omega arith; reply = omega arith })
@@ -66,7 +63,7 @@ module _ (j saved before ask weight : ℕ) (r : Offer) (h : j < 8448) (s : saved
       (λ q.
       let l : to - from ≤ largestIndex = ltb-false largestIndex (to - from) q in
       let p = run-fits (to - from) weight l w in
-      let i = index-small from in
+      let i = index-bound from in
       record { group = h; saved = s; before = b; request = omega arith; reply = omega arith }))
 
 pub saved-small : (n : ℕ) → n ≤ 256 → n - 1 ≤ 255

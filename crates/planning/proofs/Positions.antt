@@ -27,12 +27,12 @@ use Rattle.planning.specs.Tables.{noBunch, bunchAt, groupAt, Grouped, Re
 use Rattle.planning.specs.Merges.{coveredBy}
 use Rattle.planning.specs.Choosing.{servedFrom}
 use Rattle.planning.specs.Turns.{FlagTold}
-use Rattle.planning.proofs.Keys.{front-is}
 use Rattle.planning.proofs.Flagging.{flags-count, once-set}
 use Rattle.planning.proofs.Entries.{element-at, sound-at, served-first, served-later}
+use Rattle.fields.proofs.Patches.{answer-front}
 
 -- ---- two parts in a row
-halves : (x y ms : List ℕ) → take (length (x ++ y)) ms ≡ x ++ y → (take (length x) ms ≡ x) × (take (length y) (drop (length x) ms) ≡ y)
+pub halves : (x y ms : List ℕ) → take (length (x ++ y)) ms ≡ x ++ y → (take (length x) ms ≡ x) × (take (length y) (drop (length x) ms) ≡ y)
 halves x y ms e =
     let n = length-append x y in
     let z : length (x ++ y) - length x ≡ length y = omega arith in (
@@ -156,7 +156,7 @@ flags-told j stops serves members lens marks old covered count n from s e c a g 
     ap₂ flagsOf m (reads-are rs members lens requests replies count rd) ∙ flags-are k (sound-at g bs j (gr .sound) h .within) rs
     in
     let l : count ≡ length (coveredBy k rs) = sym (rd .counted) ∙ sym (length-covered k rs) in
-    (c .0 ∙ ap sum f ∙ covered-count k rs, front-is (coveredBy k rs) old covered count l (a ∙ ap (λ x. answered x old) f))
+    (c .0 ∙ ap sum f ∙ covered-count k rs, answer-front (coveredBy k rs) old covered count (a ∙ ap (λ x. answered x old) f) l)
 
 -- ---- positions of the reads that a group covers are the group's
 pub covered-each : (P : ℕ → Type 0) (k : Group) (rs : List Pending) → All P (k .serves) → All P (servedBy (keep (isCovered k) rs))

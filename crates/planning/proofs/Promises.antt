@@ -6,7 +6,6 @@ use mathlib.Core.Path.{_≡_, sym, ap, subst, _∙_}
 use mathlib.Core.List.{List, []}
 use native.Mathlib.Omega.{arith}
 use lib.ListN.{length, take, drop, length-append}
-use lib.Seq.{take-append-seam}
 use Rattle.fields.specs.Format.{fine, first}
 use Rattle.fields.specs.Places.{told}
 use Rattle.fields.specs.Writing.{patch, answered, writing, buffer}
@@ -17,7 +16,7 @@ use Rattle.fields.specs.declared.Written.{Written}
 use Rattle.fields.specs.declared.Written.the-variants.{Done, Refused}
 use Rattle.fields.proofs.Lists.{Bytes}
 use Rattle.fields.proofs.Chains.{told-bad, told-good}
-use Rattle.fields.proofs.Patches.{answered-none, answered-more}
+use Rattle.fields.proofs.Patches.{answered-none, answered-more, answer-front}
 use Rattle.fields.proofs.Filling.{writing-short, writing-done}
 use Rattle.catalog.specs.Catalog.{catalogOf}
 use Rattle.catalog.specs.Check.{catalogVerdict}
@@ -38,11 +37,6 @@ use Rattle.memory.proofs.Files.{demand-3-dug}
 use Rattle.planning.specs.Planning.{planningVerdict, planFile, Served, Led, Shown}
 
 -- ---- a file at the front of a buffer
--- its bytes are the first ones
-front-is : (file old : List ℕ) (n : ℕ) → n ≡ length file → take n (answered file old) ≡ file
-unfolding answered
-front-is file old n e = ap (λ k. take k (answered file old)) e ∙ take-append-seam file (drop (length file) old)
-
 -- it is put there
 front-put : (file old : List ℕ) → length file ≤ length old → patch old 0 file ≡ answered file old
 front-put file old h = answered-more old [] file old (omega arith) (answered-none old)
@@ -50,7 +44,7 @@ front-put file old h = answered-more old [] file old (omega arith) (answered-non
 -- the bytes that are lent, out of the buffer `bytes` that the file was made in over `blank`
 module _ (file blank bytes : List ℕ) (n : ℕ) (e : n ≡ length file) (a : bytes ≡ answered file blank) where
   lent-is : take n bytes ≡ file
-  lent-is = ap (take n) a ∙ front-is file blank n e
+  lent-is = answer-front file blank bytes n a e
 
   pub lent-within : n ≤ length bytes
   unfolding answered
@@ -119,7 +113,7 @@ module _ (c l : List ℕ) where
           planned b d blank bytes out a h k =
               let y : out ≡ answered (planFile c l) old = k ∙ ap (patch old 0) (lent-is (planFile c l) blank bytes n z a) ∙ front-put (planFile c l) old (omega arith) in
               let w = writing-done (planFile c l) old n z out h y in
-              let x : take n out ≡ planFile c l = ap (take n) y ∙ front-is (planFile c l) old n z in (
+              let x : take n out ≡ planFile c l = answer-front (planFile c l) old out n y z in (
                 w .0 ∙ ap (λ v. writing v (planFile c l) old) (sym inputs-fine),
                 (w .1, (serves b d both-fine n out x, (leads b d both-fine n out x, shows b d both-fine n out x))),
               )

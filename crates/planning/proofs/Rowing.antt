@@ -9,12 +9,11 @@ use lib.Seq.{length-take-le}
 use Rattle.fields.specs.Format.{All}
 use Rattle.fields.specs.Places.{part}
 use Rattle.fields.specs.Writing.{patch}
-use Rattle.fields.proofs.Lists.{part-first}
+use Rattle.fields.proofs.Lists.{part-first, part-none}
 use Rattle.fields.proofs.Filling.{Filling, filling-room, placing-start, placing-end}
 use Rattle.names.specs.Pieces.{joined}
 use Rattle.planning.specs.Put.{rowBytes}
 use Rattle.planning.proofs.Putting.{filling-put}
-use Rattle.planning.proofs.Spanning.{part-none}
 
 -- `f` gives the bytes of a member, `P` is what is known of each position
 pub record Rowing (f : ℕ → List ℕ) (P : ℕ → Type 0) (ms : List ℕ) (from to : ℕ) (old out : List ℕ) (start at k : ℕ) : Type 0 where

@@ -18,7 +18,7 @@ use Rattle.fields.specs.Decimal.{decimal}
 use Rattle.fields.proofs.Lists.{cond-elim, all-append, all-weaken, and-right}
 use Rattle.fields.proofs.Decimals.{numeral-decimal}
 use Rattle.names.specs.Name.{Key, member, item, several, Token, Reading, tokens, stops, readName, listed, tokensOf, spelling, bracket}
-use Rattle.names.proofs.Spelling.{fronts}
+use Rattle.names.proofs.Spelling.{fronts, tokens-are}
 use Rattle.names.proofs.Growing.{indexed-name}
 use Rattle.catalog.specs.Catalog.{Catalog}
 use Rattle.catalog.specs.Finding.{any}
@@ -131,10 +131,6 @@ unfolding keySizes
 sizes-append [] us = omega arith
 sizes-append (t ∷ ts) us = omega (arith, sizes-append ts us)
 
-tokens-of : (s : Text) (ts : List Token) → readName s ≡ tokens ts → tokensOf s ≡ ts
-unfolding tokensOf listed
-tokens-of s ts e = rw e
-
 request-more : (c : Catalog) (s s′ : Text) (t : Token) (ts us : List Token) → requestFrom c s′ ((t ∷ ts) ++ us) ≡ requestFrom c s (t ∷ ts) + keySizes us
 unfolding requestFrom
 request-more c s s′ t ts us = omega (arith, sizes-append ts us)
@@ -146,9 +142,9 @@ unfolding requestSize elementName keySizes keySize
 element-request c a t ts i e l =
     let u : Token = record { text = bracket (decimal i); key = item i } in
     let s = a ++ bracket (decimal i) in
-    let r = tokens-of s ((t ∷ ts) ++ (u ∷ [])) (indexed-name a (decimal i) i (t ∷ ts) (numeral-decimal i (omega arith)) e) in
+    let r = tokens-are s ((t ∷ ts) ++ (u ∷ [])) (indexed-name a (decimal i) i (t ∷ ts) (numeral-decimal i (omega arith)) e) in
     let q = ap (requestFrom c s) r ∙ request-more c a s t ts (u ∷ []) in
-    let p = ap (requestFrom c a) (tokens-of a (t ∷ ts) e) in
+    let p = ap (requestFrom c a) (tokens-are a (t ∷ ts) e) in
     omega arith
 
 -- a name that has tokens

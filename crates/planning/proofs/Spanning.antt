@@ -6,13 +6,9 @@ use mathlib.Core.Path.{_≡_, refl, sym, ap, _∙_}
 use mathlib.Core.List.{List, [], _∷_, map}
 use lib.ListN.{length, getD}
 use Rattle.fields.specs.Places.{part}
-use Rattle.fields.proofs.Lists.{part-first}
+use Rattle.fields.proofs.Lists.{part-first, part-none}
 use Rattle.planner.specs.Lists.{least, greatest}
 use Rattle.planning.specs.Put.{numbersBy, startIn, spanIn}
-
--- nothing is left of a part
-pub part-none : (s : List ℕ) (k to : ℕ) → to ≤ k → part k to s ≡ []
-part-none s k to h = let z : to - k ≡ 0 = omega arith in rw z
 
 -- ---- one number more
 least-more : (a n : ℕ) (ns : List ℕ) → least (min a n ∷ ns) ≡ least (a ∷ n ∷ ns)

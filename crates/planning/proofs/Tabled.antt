@@ -6,7 +6,7 @@ use native.Mathlib.Omega.{arith}
 use native.Mathlib.Numerals.{add-one}
 use mathlib.Core.Path.{_≡_, refl, sym, ap, ap₂, subst, _∙_}
 use mathlib.Core.Bool.{Bool, true, false, cond}
-use mathlib.Core.List.{List, [], _∷_, _++_, map}
+use mathlib.Core.List.{List, [], _∷_, _++_, map, map-append}
 use lib.Dec.{eqb}
 use lib.ListN.{length, take, drop, getD, length-map, length-take}
 use lib.Seq.{take-append-seam, take-take}
@@ -52,10 +52,6 @@ unfolding mergedInto
 merged-is fs ps new h = merged-same fs ps new h
 
 -- ---- a column of the rows after a merge
-map-both : {A B : Type 0} (f : A → B) (xs ys : List A) → map f (xs ++ ys) ≡ map f xs ++ map f ys
-map-both f [] ys = refl
-map-both f (x ∷ xs) ys = ap (λ l. f x ∷ l) (map-both f xs ys)
-
 map-behind : {A B : Type 0} (f : A → B) (n : ℕ) (xs : List A) → map f (drop n xs) ≡ drop n (map f xs)
 map-behind f zero xs = refl
 map-behind f (suc n) [] = refl
@@ -73,7 +69,7 @@ module _ (fs : List ℕ) (new : Row) (table table′ : List Row) (e : table′ �
       let k : map f (closed fs new table) ≡ closed fs (f new) (map f table) = map-closed f fs new table in
       let l : length (closed fs new table) ≡ length (closed fs (f new) (map f table)) = sym (length-map (closed fs new table) f) ∙ ap length k in
       ap (map f) e
-      ∙ map-both f (closed fs new table) (drop (length (closed fs new table)) table)
+      ∙ map-append f (closed fs new table) (drop (length (closed fs new table)) table)
       ∙ ap₂ _++_ k (map-behind f (length (closed fs new table)) table ∙ ap (λ n. drop n (map f table)) l)
 
   rows-merged : (r : ℕ) → r ≡ length (closed fs new table) → take r table′ ≡ closed fs new table

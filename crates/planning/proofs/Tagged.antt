@@ -6,11 +6,10 @@ use native.Mathlib.Omega.{arith}
 use mathlib.Core.Path.{_≡_, refl}
 use mathlib.Core.List.{[]}
 use lib.ListN.{length}
-use Rattle.fields.specs.Format.{All, leading, many, mapped, _then_}
-use Rattle.fields.specs.Fields.{number, numeric, counted}
+use Rattle.fields.specs.Format.{All}
 use Rattle.catalog.specs.Catalog.{Catalog}
 use Rattle.packing.specs.declared.Cost.{Cost}
-use Rattle.lists.specs.Lists.{TagList, tagList, tag}
+use Rattle.lists.specs.Lists.{TagList, tagList}
 use Rattle.planner.specs.Tags.{tagsOf}
 use Rattle.planner.specs.Merging.{tagAt}
 use Rattle.planner.specs.Plan.{givenOf}
@@ -19,6 +18,7 @@ use Rattle.planner.proofs.Listed.{Fair, fair-tags}
 use Rattle.candidates.proofs.Told.{Listing, EachAt, Told, tags-told, tags-length}
 use Rattle.planning.specs.Tables.{namesIn}
 use Rattle.planning.specs.Stages.{firstsIn}
+use Rattle.planner.proofs.Writable.{listed-within}
 
 module _ (k : Cost) (c : Catalog) (w : TagList) where
   -- the columns tell the names and the first spellings
@@ -36,10 +36,6 @@ module _ (k : Cost) (c : Catalog) (w : TagList) where
   count-tags = tags-length c w
 
 -- ---- the limits of a list
-
-listed-within : (w : TagList) → tagList .within w → (length (w .tags) ≤ 256) × All (tag .within) (w .tags)
-unfolding tagList mapped _then_ counted leading number numeric many
-listed-within w h = (h .1 .1 .1 .1 .0, h .1 .1 .1 .1 .1 .1)
 
 module _ (k : Cost) (c : Catalog) (w : TagList) (h : tagList .within w) where
   pub few-tags : length (givenOf k c w .tags) ≤ 256

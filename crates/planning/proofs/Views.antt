@@ -35,7 +35,7 @@ use Rattle.planner.specs.Plan.{givenOf}
 use Rattle.planner.proofs.Serving.{text-at}
 use Rattle.candidates.specs.Columns.{tagName, isOne, rowsIn, elementsIn}
 use Rattle.candidates.proofs.Told.{tags-length}
-use Rattle.considered.specs.Considered.{isFine, isViewed, viewed, viewedPlaces, widthOf, indexOf, arrayOf, requestOf, replyOf, viewCount}
+use Rattle.considered.specs.Considered.{isViewed, viewed, viewedPlaces, widthOf, indexOf, arrayOf, requestOf, replyOf, viewCount}
 use Rattle.considered.specs.declared.Considered.{Considered}
 use Rattle.planning.specs.Tables.{namesIn, Indexed, Named}
 use Rattle.planning.specs.Stages.{Elemental, planningOf, Accepted, Viewed, Pieced, Rowed}
@@ -58,7 +58,7 @@ module _ (catalog list : List ℕ) (a : Accepted catalog list) where
   g = planningOf catalog list
 
   is-viewed : isViewed catalog list ≡ true
-  unfolding isViewed isFine catalogVerdict
+  unfolding isViewed catalogVerdict
   is-viewed =
       let u = first-fine (fieldsVerdict catalog) (first (alikeVerdict catalog) (nestingVerdict catalog)) (a .catalog-fine) in
       let v = first-fine (alikeVerdict catalog) (nestingVerdict catalog) (u .1) in

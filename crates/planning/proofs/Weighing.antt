@@ -27,8 +27,8 @@ use Rattle.planning.specs.declared.Offer.{Offer}
 use Rattle.planning.specs.Tables.{namesIn, bunchAt, groupAt}
 use Rattle.planning.specs.Merges.{offerOf, Modest, Lookup}
 use Rattle.planning.specs.Choosing.{keyOf, runName, namePart, Tells, FreeTold, FirstTold, BetterTold, LeadTold}
-use Rattle.planning.proofs.Keys.{front-is}
 use Rattle.planning.proofs.Entries.{number-is, group-sound, name-is, key-is, name-short}
+use Rattle.fields.proofs.Patches.{answer-front}
 
 -- ---- a merge that is there
 pub merge-is : (g : Given) (rs : List Pending) (k : Group) (mm : Merged) → merge g rs k ≡ some mm → (2 ≤ length (keep (isCovered k) rs)) × (mm ≡ mergedOf g k rs (keep (isCovered k) rs))
@@ -123,7 +123,7 @@ module _ (list places spellers spans numbers : List ℕ) (m : Offer) where
         let u = name-is g bs list places indexes spellers spans numbers weights asks stops serves look (m .group) (t .known) p (q .0) in
         let w : mm .new .name ≡ name = told-run g bs rs m mm t (λ z. e (x ∙ z)) ∙ ap (λ y. runName y (m .start) (m .span)) (sym u) in
         free-by g mm name b w
-        (ap (λ y. any (same (lowered name)) (y .noGroup)) (look .asked) ∙ ap (λ y. any (same (lowered y)) (listOf list .noGroup)) (sym (front-is name old out n l o)) ∙ sym a)
+        (ap (λ y. any (same (lowered name)) (y .noGroup)) (look .asked) ∙ ap (λ y. any (same (lowered y)) (listOf list .noGroup)) (sym (answer-front name old out n o l)) ∙ sym a)
 
 -- ---- which key comes first
 pub first-key : (list places spellers spans numbers : List ℕ) (j k : ℕ) (p q : Part) (r : Bool) → p ≡ namePart list places spellers spans j → q ≡ namePart list places spellers spans k

@@ -49,6 +49,7 @@ use Rattle.queries.specs.declared.Looked.{Looked}
 use Rattle.queries.specs.declared.Measured.the-variants.{Bytes, Refused as SizeRefused}
 use Rattle.sizes.proofs.Counts.{size-is}
 use Rattle.queries.specs.declared.Outcome.the-variants.{Found, NotThere, Refused as Refuses}
+use Rattle.fields.proofs.Verdicts.{told-fine, told-refused}
 
 -- ---- a name given by itself
 module _ (s : Text) where
@@ -101,16 +102,6 @@ module _ (c n : List ℕ) where
   query-name p r e d = d ∙ sym (told-good (catalogVerdict c) (nameVerdict n) (length c) (length n) p e .0)
 
 -- ---- what a check told
-told-fine : (v : Verdict) (q p : ℕ) → told v q ≡ Good p → v ≡ fine
-unfolding told
-told-fine fine q p e = refl
-told-fine (bad r) q p e = let z : _≡_ {A = ℕ} 0 1 = cc in absurd (omega arith)
-
-told-refused : (v : Verdict) (q : ℕ) (r : Refusal) → told v q ≡ Refused r → v ≡ bad r
-unfolding told
-told-refused fine q r e = let z : _≡_ {A = ℕ} 0 1 = cc in absurd (omega arith)
-told-refused (bad f) q r e = let z : f ≡ r = cc in ap bad z
-
 -- a name that was not refused is not too long, and has no index or count over the limit
 name-fine : (c n : List ℕ) (q p : ℕ) → told (queryVerdict c n) q ≡ Good p → (lengthVerdict n ≡ fine) × (indexCheck largestCount n 0 ≡ fine)
 unfolding queryVerdict nameVerdict

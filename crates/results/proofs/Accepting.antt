@@ -24,7 +24,7 @@ use Rattle.results.specs.Results.{result, results, resultsOf, fieldsVerd
 use Rattle.fields.specs.Files.{countsVerdict}
 use Rattle.results.specs.Sorting.{sortVerdict}
 use Rattle.results.specs.Told.{pairCount}
-use Rattle.results.proofs.Naming.{told-fine}
+use Rattle.fields.proofs.Verdicts.{told-fine}
 
 -- ---- there are as many results as the count says
 row-length : (n : ℕ) (l : List ℕ) (i : ℕ) → length (manyRead result n l i .value) ≡ n

@@ -7,7 +7,7 @@ use mathlib.Core.List.{List}
 use native.Mathlib.Omega.{arith}
 use lib.ListN.{length, take, drop}
 use borrow.Author.Tests.{eq-eqb, ne-eqb}
-use Rattle.fields.specs.Format.{Verdict, fine, bad, first}
+use Rattle.fields.specs.Format.{Verdict, fine, first}
 use Rattle.fields.specs.Fields.{number, whole, limited}
 use Rattle.fields.specs.Places.{valueAt, placeAt, told}
 use Rattle.fields.specs.declared.Refusal.{Refusal}
@@ -17,12 +17,7 @@ use Rattle.fields.proofs.Chains.{told-bad, told-good}
 use Rattle.fields.proofs.Reading.{choice-value, choice-place}
 use Rattle.values.specs.Alike.{alikeWithin}
 use Rattle.results.specs.Results.{result, fieldsVerdict, resultAlike, resultsAlike, resultsVerdict}
-
--- ---- what a verdict told was
-pub told-fine : (v : Verdict) (p q : ℕ) → told v p ≡ Good q → v ≡ fine
-unfolding told
-told-fine fine p q e = refl
-told-fine (bad r) p q e = let z : _≡_ {A = ℕ} 0 1 = cc in absurd (omega arith)
+use Rattle.fields.proofs.Verdicts.{told-fine}
 
 -- ---- the result at a place: its status byte is `n`, and what follows stands at `p`
 module _ (s : List ℕ) (at n p : ℕ) (e : n ≡ limited 2 (whole 1 (take 1 (drop at s)))) (g : p ≡ at + length (take 1 (drop at s))) where

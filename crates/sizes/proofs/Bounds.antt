@@ -3,7 +3,7 @@
 -- Assumes nothing.
 use Prim.Native.Nat.{ℕ, _+_, _*_, _/_, _≤_}
 use mathlib.Core.Path.{_≡_, refl, sym, ap, subst}
-use mathlib.Core.Bool.{Bool, true, false, cond, _||_}
+use mathlib.Core.Bool.{false, cond, _||_}
 use mathlib.Core.List.{List, [], _∷_, _++_}
 use mathlib.Core.Option.{Option, none, some}
 use native.Mathlib.Omega.{arith}
@@ -13,7 +13,7 @@ use borrow.Author.Tests.{ltb-false}
 use Rattle.fields.specs.Text.{Text}
 use Rattle.fields.specs.Places.{scan}
 use Rattle.fields.specs.Format.{All}
-use Rattle.fields.proofs.Lists.{cond-elim}
+use Rattle.fields.proofs.Lists.{cond-elim, either-false}
 use Rattle.names.specs.Pieces.{joined}
 use Rattle.names.specs.Name.{Key, Token, reads, Reading, tokens, stops, laterToken, inProgram, isUndotted, readName, listed, tokensOf, textOf, spelling, bracket}
 use Rattle.names.specs.Range.{Range, rangeOf}
@@ -36,7 +36,7 @@ use Rattle.sizes.proofs.Summing.{cost-indexes}
 use Rattle.sizes.proofs.Named.{Front, range-front}
 
 -- ---- requests
-index-bound : (i : ℕ) → indexSize i ≤ 4
+pub index-bound : (i : ℕ) → indexSize i ≤ 4
 unfolding indexSize
 index-bound i = cond-elim (λ n. n ≤ 4) (ltb i 256) (λ _. omega arith) (λ _. omega arith)
 
@@ -138,10 +138,6 @@ range-bound none count h k = omega arith
 range-bound (some n) count h k = elements-bound n count h k
 
 -- ---- reads
-neither : (a b : Bool) → (a || b) ≡ false → (a ≡ false) × (b ≡ false)
-neither true b e = let z : _≡_ {A = ℕ} 0 1 = cc in absurd (omega arith)
-neither false b e = (refl, e)
-
 -- the sizes of a read
 abbrev Fits : Size → Type 0
 Fits z = (z .request ≤ 1000) × (z .reply ≤ 65535065545)
@@ -163,4 +159,4 @@ unfolding boundedSize unreadable sizeTold
 read-bound s t =
     cond-elim (λ (z : Told). (z .request ≤ 1000) × (z .reply ≤ 65535065545)) {x = noSize} {y = sizeTold (readSize (catalogOf s) t)} (ltb longestName (length t) || overCount (rangeOf t))
     (λ _. (omega arith, omega arith))
-    (λ e. let n = neither (ltb longestName (length t)) (overCount (rangeOf t)) e in read-fits s t (ltb-false longestName (length t) (n .0)) (n .1))
+    (λ e. let n = either-false (ltb longestName (length t)) (overCount (rangeOf t)) e in read-fits s t (ltb-false longestName (length t) (n .0)) (n .1))

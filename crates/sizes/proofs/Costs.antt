@@ -3,16 +3,15 @@
 -- Assumes nothing.
 use Prim.Native.Nat.{ℕ, _+_, _%_, _≤_, _<_}
 use mathlib.Core.Path.{_≡_, refl, sym, ap, _∙_}
-use mathlib.Core.Bool.{Bool, true, false}
+use mathlib.Core.Bool.{true, false}
 use mathlib.Core.List.{List}
 use mathlib.Core.Option.{some}
 use native.Mathlib.Omega.{arith}
-use lib.ListN.{length, take, length-take}
+use lib.ListN.{length, take}
 use lib.Seq.{length-take-le}
 use borrow.Author.Tests.{lt-ltb, le-ltb}
 use Rattle.fields.specs.Text.{Text, bytes, alike}
 use Rattle.fields.specs.Places.{scan, valueAt}
-use Rattle.fields.proofs.Texts.{length-lowered, alike-is}
 use Rattle.names.specs.Pieces.{isNot}
 use Rattle.names.specs.Name.{inProgram, isUndotted}
 use Rattle.names.proofs.Indexing.{part-at}
@@ -24,6 +23,7 @@ use Rattle.nodes.specs.declared.Found.{Found}
 use Rattle.nodes.specs.declared.Found.the-variants.{At, Nowhere}
 use Rattle.nodes.specs.declared.Node.{Node as Read}
 use Rattle.sizes.specs.Sizes.{paddedTo, padded, indexSize, idSize, idOf, programSize}
+use Rattle.names.proofs.Piecewise.{program-test}
 
 -- ---- an index
 pub index-small : (i : ℕ) → i < 256 → (2 ≡ indexSize i) × (2 ≤ 4)
@@ -69,16 +69,6 @@ unfolding paddedTo
 padded-is n h = (refl, omega arith)
 
 -- ---- a program part
-program-test : (b : Text) → length b < 8 → inProgram b ≡ false
-unfolding inProgram
-program-test b h = go (alike (take 8 b) (bytes "program:")) refl
-  where
-    go : (t : Bool) → alike (take 8 b) (bytes "program:") ≡ t → t ≡ false
-    go true e =
-        let l : length (take 8 b) ≡ 8 = sym (length-lowered (take 8 b)) ∙ ap length (alike-is (take 8 b) (bytes "program:") e) ∙ length-lowered (bytes "program:") in
-        let m = length-take 8 b in absurd (omega arith)
-    go false e = refl
-
 module _ (b : Text) where
   no-program : inProgram b ≡ false → (0 ≡ programSize b) × (0 ≤ 140)
   unfolding programSize

@@ -5,7 +5,7 @@ use Prim.Native.Nat.{ℕ, zero, suc, _+_, _-_, _≤_, _<_}
 use mathlib.Core.Path.{_≡_, sym, ap, ap₂, _∙_}
 use mathlib.Core.Bool.{Bool, true, false}
 use mathlib.Core.List.{List, [], _∷_, _++_, append-assoc, append-nil}
-use mathlib.Core.Option.{some, Option·none-ne-some, Option·some-injective}
+use mathlib.Core.Option.{some, Option·some-injective}
 use native.Mathlib.Omega.{arith}
 use native.Mathlib.Numerals.{add-one}
 use lib.ListN.{length, take, drop, getD, set, length-set, getElem?, drop-of-length-le}
@@ -20,6 +20,7 @@ use Rattle.catalog.specs.Alike.{nameAt, typesStart, typePlaces}
 use Rattle.nesting.specs.Graph.{typeIndex}
 use Rattle.types.specs.Tables.{Placed, listed}
 use Rattle.nodes.proofs.Standing.{types-from, type-places-count, typed}
+use Rattle.nesting.proofs.Answers.{there}
 
 -- ---- the loop: `k` of the places are written, and the next type stands at `at`
 pub record Placing (s : List ℕ) (count : ℕ) (places : List ℕ) (at k : ℕ) : Type 0 where
@@ -80,11 +81,6 @@ first-left [] zero d r e = cc
 first-left [] (suc k) d r e = cc
 first-left (x ∷ ds) zero d r e = cc
 first-left (x ∷ ds) (suc k) d r e = first-left ds k d r e
-
-there : (ds : List TypeDef) (k : ℕ) (d : TypeDef) → getElem? ds k ≡ some d → k < length ds
-there [] k d e = absurd (Option·none-ne-some d e)
-there (x ∷ ds) zero d e = omega arith
-there (x ∷ ds) (suc k) d e = let h = there ds k d e in omega arith
 
 module _ (s places : List ℕ) (count : ℕ) (P : Placed s places count) (k : ℕ) (d : TypeDef) (e : getElem? (catalogOf s .types) k ≡ some d) where
   -- a type's number is below the count, and it stands at its place

@@ -8,7 +8,7 @@ use mathlib.Core.List.{List, [], _∷_, _++_, append-assoc, append-nil}
 use native.Mathlib.Omega.{arith}
 use lib.ListN.{length, drop}
 use Rattle.fields.specs.Text.{Text}
-use Rattle.fields.specs.Format.{Verdict, fine, bad, first, Format, _then_, leading, mapped, given, manyLay, All, many, heldLay, among}
+use Rattle.fields.specs.Format.{Verdict, fine, bad, first, Format, _then_, leading, mapped, given, manyLay, All, many, heldLay, among, isFine}
 use Rattle.fields.specs.Fields.{digits, numeric, number, choice, text, counted}
 use Rattle.fields.specs.Places.{valueAt, placeAt}
 use Rattle.fields.specs.declared.Refusal.{Refusal}
@@ -24,21 +24,9 @@ use Rattle.values.specs.Alike.{pastValue, kindAt, countPlace, itemsAlike
 use Rattle.values.proofs.Closing.{closing-bytes-left}
 use Rattle.values.proofs.Laid.{laid}
 use Rattle.values.proofs.Round.{lawful-enclosed, fields-accepted}
+use Rattle.fields.proofs.Verdicts.{fine-is, first-is}
 
 -- ---- verdicts as tests
-abbrev isFine : Verdict → Bool
-isFine fine = true
-isFine (bad r) = false
-
-fine-is : (v : Verdict) → isFine v ≡ true → v ≡ fine
-fine-is fine e = refl
-fine-is (bad r) e = let z : _≡_ {A = ℕ} 0 1 = cc in absurd (omega arith)
-
-first-is : (u v : Verdict) → isFine (first u v) ≡ isFine u && isFine v
-unfolding first
-first-is fine v = refl
-first-is (bad r) v = refl
-
 -- a member's own name, its value, the later members
 member-is : (b : Bool) (r : Refusal) (u v : Verdict) (c d : Bool) → isFine u ≡ c → isFine v ≡ d → isFine (first (cond b (bad r) fine) (first u v)) ≡ cond b false (c && d)
 unfolding first

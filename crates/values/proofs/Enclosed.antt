@@ -3,7 +3,7 @@
 -- Assumes nothing.
 use Prim.Native.Nat.{ℕ, zero, suc, _+_, _-_, _≤_, _<_}
 use mathlib.Core.Path.{_≡_, refl, sym}
-use mathlib.Core.Bool.{Bool, true, false, _||_, false≢true}
+use mathlib.Core.Bool.{true, false}
 use mathlib.Core.List.{List}
 use native.Mathlib.Omega.{arith}
 use lib.ListN.{length, take, drop, length-take, length-drop}
@@ -16,7 +16,7 @@ use Rattle.fields.specs.Files.{fieldsCheck}
 use Rattle.fields.specs.Places.{told, outcome, checkAt}
 use Rattle.fields.specs.declared.Refusal.the-variants.{OutOfFile, TooManyLevels}
 use Rattle.fields.specs.declared.Checked.the-variants.{Refused}
-use Rattle.fields.proofs.Lists.{drop-take}
+use Rattle.fields.proofs.Lists.{drop-take, either-false}
 use Rattle.fields.proofs.Numbers.{there}
 use Rattle.values.specs.File.{runsPast, inside, enclosed, content, tooDeep, value}
 
@@ -37,17 +37,13 @@ module _ (s : List ℕ) (at m : ℕ) (q : m ≡ length s - at) where
       let l : 4 ≤ length (take 4 (drop at s)) = omega arith in
       let k : length (drop 4 (drop at s)) ≡ m′ = omega arith in rw (← e, le-ltb _ _ l, k)
 
-pub neither : (x y : Bool) → (x || y) ≡ false → (x ≡ false) × (y ≡ false)
-neither true y e = absurd (false≢true (sym e))
-neither false y e = (refl, e)
-
 -- ---- a value that does not, of `n` bytes behind its length field
 module _ (s : List ℕ) (at n : ℕ) (e : n ≡ whole 4 (take 4 (drop at s))) (f : runsPast (drop at s) ≡ false) where
   -- it ends inside the file
   pub value-fits : at + 4 + n ≤ length s
   unfolding runsPast
   value-fits =
-      let b = neither (ltb (length (take 4 (drop at s))) 4) (ltb (length (drop 4 (drop at s))) (whole 4 (take 4 (drop at s)))) f in
+      let b = either-false (ltb (length (take 4 (drop at s))) 4) (ltb (length (drop 4 (drop at s))) (whole 4 (take 4 (drop at s)))) f in
       let l = ltb-false (length (take 4 (drop at s))) 4 (b .0) in
       let k = ltb-false (length (drop 4 (drop at s))) (whole 4 (take 4 (drop at s))) (b .1) in
       let t = there 4 at s in

@@ -14,11 +14,10 @@ use Rattle.fields.specs.Format.{Verdict, fine, bad, first, Format, given}
 use Rattle.fields.specs.Fields.{spelled, digits, whole}
 use Rattle.fields.specs.Files.{endingCheck, fieldsCheck}
 use Rattle.fields.specs.declared.Refusal.the-variants.{OutOfFile}
-use Rattle.fields.proofs.Lists.{Bytes, bytes-after, bytes-take}
+use Rattle.fields.proofs.Lists.{Bytes, bytes-after, bytes-take, either-false}
 use Rattle.fields.proofs.Spelled.{digits-spelled, length-digits, spelled-digits, spelled-fits}
 use Rattle.fields.proofs.LawfulFields.{whole-is}
 use Rattle.values.specs.File.{runsPast, inside, enclosed}
-use Rattle.values.proofs.Enclosed.{neither}
 use Rattle.values.proofs.Closing.{Closing}
 
 -- a pick that is fine is not the refusal
@@ -31,14 +30,14 @@ module _ (l : List ℕ) (f : runsPast l ≡ false) where
   field-whole : length (take 4 l) ≡ 4
   unfolding runsPast
   field-whole =
-      let b = neither (ltb (length (take 4 l)) 4) (ltb (length (drop 4 l)) (whole 4 (take 4 l))) f in
+      let b = either-false (ltb (length (take 4 l)) 4) (ltb (length (drop 4 l)) (whole 4 (take 4 l))) f in
       let h = ltb-false (length (take 4 l)) 4 (b .0) in
       let n = length-take 4 l in omega arith
 
   inside-length : length (inside l) ≡ whole 4 (take 4 l)
   unfolding runsPast inside
   inside-length =
-      let b = neither (ltb (length (take 4 l)) 4) (ltb (length (drop 4 l)) (whole 4 (take 4 l))) f in
+      let b = either-false (ltb (length (take 4 l)) 4) (ltb (length (drop 4 l)) (whole 4 (take 4 l))) f in
       let h = ltb-false (length (drop 4 l)) (whole 4 (take 4 l)) (b .1) in
       let n = length-take (whole 4 (take 4 l)) (drop 4 l) in omega arith
 

@@ -29,17 +29,7 @@ use Rattle.values.specs.Dig.{countAt, firstPlace}
 use Rattle.values.specs.Again.{standsAt}
 use Rattle.values.proofs.Walks.{oneMember}
 use Rattle.values.proofs.Repeated.{alike-past, member-bad, member-fine, repeat-here}
-
--- ---- what a verdict told was
-pub was-fine : (v : Verdict) (n p : ℕ) → told v n ≡ Good p → v ≡ fine
-unfolding told
-was-fine fine n p e = refl
-was-fine (bad r) n p e = let z : _≡_ {A = ℕ} 0 1 = cc in absurd (omega arith)
-
-pub was-bad : (v : Verdict) (n : ℕ) (r : Refusal) → told v n ≡ Refused r → v ≡ bad r
-unfolding told
-was-bad fine n r e = let z : _≡_ {A = ℕ} 0 1 = cc in absurd (omega arith)
-was-bad (bad q) n r e = let z : q ≡ r = cc in ap bad z
+use Rattle.fields.proofs.Verdicts.{told-fine, told-refused}
 
 -- ---- whether the first repeat stands at a place
 pub stands-here : (x : Repeat) (q at : ℕ) (b : Bool) → x ≡ At q → b ≡ eqb q at → b ≡ standsAt x at
@@ -110,11 +100,11 @@ module _ (deeper : List ℕ → ℕ → Verdict) (s : List ℕ) (at k : ℕ) (al
 
   pub item-refused : (v : Checked) (r : Refusal) → 0 < k → v ≡ told (deeper s at) (length s) → v ≡ Refused r → Refused r ≡ told all (length s)
   unfolding told first
-  item-refused v r h e d = ap (λ u. told u (length s)) (rw (was-bad (deeper s at) (length s) r (sym e ∙ d)) at (item-first h))
+  item-refused v r h e d = ap (λ u. told u (length s)) (rw (told-refused (deeper s at) (length s) r (sym e ∙ d)) at (item-first h))
 
   pub item-passed : (v : Checked) (p q : ℕ) → 0 < k → v ≡ told (deeper s at) (length s) → v ≡ Good p → q ≡ pastValue s at → itemsAlike deeper (k - 1) s q ≡ all
   unfolding first
-  item-passed v p q h e d g = rw g (rw (was-fine (deeper s at) (length s) p (sym e ∙ d)) at (item-first h))
+  item-passed v p q h e d g = rw g (rw (told-fine (deeper s at) (length s) p (sym e ∙ d)) at (item-first h))
 
 -- ---- members in a row: `k` are left at `at`; `seen` are the names before them, and `again` is the first repeat of all
 pub record Going (s : List ℕ) (levels from n : ℕ) (again : Repeat) (at k : ℕ) : Type 0 where
@@ -173,7 +163,7 @@ module _ (s : List ℕ) (levels from n : ℕ) (again : Repeat) (at : ℕ) where
     going-stopped zero r G h y d = absurd (omega arith)
     going-stopped (suc k) r G h y d =
         sym (G .left)
-        ∙ member-bad (alikeWithin levels) s at (G .seen) k r (going-new k G y) (ap (alikeWithin levels s) (sym name-end) ∙ was-bad (alikeWithin levels s p) (length s) r (sym e ∙ d))
+        ∙ member-bad (alikeWithin levels) s at (G .seen) k r (going-new k G y) (ap (alikeWithin levels s) (sym name-end) ∙ told-refused (alikeWithin levels s p) (length s) r (sym e ∙ d))
 
     pub going-bad : (k : ℕ) (r : Refusal) → Going s levels from n again at k → 0 < k → (b : Bool) → b ≡ standsAt again at → b ≡ false → v ≡ Refused r
         → Refused r ≡ told (membersAlike (alikeWithin levels) n [] s from) (length s)
@@ -187,7 +177,7 @@ module _ (s : List ℕ) (levels from n : ℕ) (again : Repeat) (at : ℕ) where
         record {
           seen = nameAt s at ∷ G .seen;
           left =
-              sym (member-fine (alikeWithin levels) s at (G .seen) k t (ap (alikeWithin levels s) (sym name-end) ∙ was-fine (alikeWithin levels s p) (length s) x (sym e ∙ d)))
+              sym (member-fine (alikeWithin levels) s at (G .seen) k t (ap (alikeWithin levels s) (sym name-end) ∙ told-fine (alikeWithin levels s p) (length s) x (sym e ∙ d)))
               ∙ G .left;
           ahead = rw t at (G .ahead);
         }
@@ -201,8 +191,8 @@ module _ (s : List ℕ) (levels from n : ℕ) (again : Repeat) (at : ℕ) where
 module _ (s : List ℕ) (f : Checked) (e : f ≡ told (fieldsVerdict s) (length s)) where
   pub file-refused : (r : Refusal) → f ≡ Refused r → Refused r ≡ told (valueVerdict s) (length s)
   unfolding valueVerdict first told
-  file-refused r d = rw (was-bad (fieldsVerdict s) (length s) r (sym e ∙ d))
+  file-refused r d = rw (told-refused (fieldsVerdict s) (length s) r (sym e ∙ d))
 
   pub file-checked : (p : ℕ) (v : Checked) → f ≡ Good p → v ≡ told (alikeWithin 40 s 1) (length s) → v ≡ told (valueVerdict s) (length s)
   unfolding valueVerdict first
-  file-checked p v d h = rw (was-fine (fieldsVerdict s) (length s) p (sym e ∙ d)) h
+  file-checked p v d h = rw (told-fine (fieldsVerdict s) (length s) p (sym e ∙ d)) h

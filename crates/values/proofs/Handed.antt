@@ -24,27 +24,27 @@ use Rattle.values.specs.Dig.{pathOf, pathVerdict, digVerdict, cutOf, dig
 use Rattle.values.specs.Told.{dugTold, dugOf, cutBytes, between, partTold, Handed}
 use Rattle.values.specs.declared.Dug.{Dug}
 use Rattle.values.specs.declared.Dug.the-variants.{At, NotThere, Refused as Unfit}
-use Rattle.values.proofs.Going.{was-fine, was-bad}
 use Rattle.values.proofs.Cutting.{cut-is, cut-inside}
+use Rattle.fields.proofs.Verdicts.{told-fine, told-refused}
 
 -- ---- the checks, and the walk behind them: `f` is what the check of the value file told
 module _ (s p : List ℕ) (f : Checked) (e : f ≡ told (valueVerdict s) (length s)) where
   pub value-refused : (r : Refusal) → f ≡ Refused r → Unfit r ≡ dugOf (digVerdict s p) s (digPlace s (pathOf p) 1)
   unfolding digVerdict first dugOf
-  value-refused r d = rw (was-bad (valueVerdict s) (length s) r (sym e ∙ d))
+  value-refused r d = rw (told-refused (valueVerdict s) (length s) r (sym e ∙ d))
 
   -- `w` is what the check of the path told
   module _ (n : ℕ) (d : f ≡ Good n) (w : Checked) (g : w ≡ told (pathVerdict p) (length p)) where
     pub path-refused : (r : Refusal) → w ≡ Refused r → Unfit r ≡ dugOf (digVerdict s p) s (digPlace s (pathOf p) 1)
     unfolding digVerdict first dugOf
-    path-refused r h = rw (was-fine (valueVerdict s) (length s) n (sym e ∙ d), was-bad (pathVerdict p) (length p) r (sym g ∙ h))
+    path-refused r h = rw (told-fine (valueVerdict s) (length s) n (sym e ∙ d), told-refused (pathVerdict p) (length p) r (sym g ∙ h))
 
     -- `k` keys stand from `q` on, and `r` is what the walk along them found
     pub path-walked : (m : ℕ) → w ≡ Good m → (k q : ℕ) (r : Dug) → k ≡ limited 64 (whole 1 (take 1 (drop 0 p))) → q ≡ 0 + length (take 1 (drop 0 p))
         → r ≡ dugTold s (digPlace s (valueAt (many step k) p q) 1) → r ≡ dugOf (digVerdict s p) s (digPlace s (pathOf p) 1)
     unfolding digVerdict first dugOf pathOf valueAt
     path-walked m h k q r c b j =
-        rw (was-fine (valueVerdict s) (length s) n (sym e ∙ d), was-fine (pathVerdict p) (length p) m (sym g ∙ h))
+        rw (told-fine (valueVerdict s) (length s) n (sym e ∙ d), told-fine (pathVerdict p) (length p) m (sym g ∙ h))
         (j ∙ ap (λ ks. dugTold s (digPlace s ks 1)) (sym (counted-value step p 0 k q 1 64 (omega arith) c b)))
 
 -- ---- the bytes between two places, by the ways of the code

@@ -1,5 +1,4 @@
 -- `one_index` meets its contract: a token is one index where its brackets hold one number.
-use Rattle.considered.proofs.Noded.{none-told}
 use Rattle.considered.proofs.Named.{later-two, dotted-none, bracket-index}
 use Rattle.fields.specs.Places.{numberTold}
 use mathlib.Core.Path.{ap, _∙_}
@@ -7,12 +6,13 @@ use native.Mathlib.Omega.{arith}
 use borrow.Author.Needs.{needs}
 use Rattle.considered.proofs.one_index.Statement.{statement}
 use Rattle.considered.proofs.one_index.Tie as tie
+use Rattle.fields.proofs.Decimals.{told-missing}
 
 shared-slice-read-if1 : tie.Need-shared-slice-read-if1
 shared-slice-read-if1 c = let l = later-two (c .before .before .args .t .now) (c .before .before .pre) in omega arith
 
 returns : tie.Need-returns
-returns c = none-told _ (dotted-none (c .before .before .before .args .t .now) (c .before .before .before .pre) (c .if1 .taken))
+returns c = told-missing _ (dotted-none (c .before .before .before .args .t .now) (c .before .before .before .pre) (c .if1 .taken))
 
 sub-last : tie.Need-sub-last
 sub-last c = let l = later-two (c .before .before .before .args .t .now) (c .before .before .before .pre) in omega arith
