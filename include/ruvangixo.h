@@ -28,7 +28,7 @@
  *         ruvangixo_sort           602,447           603,392
  *         ruvangixo_dig            599,839           600,784
  *         ruvangixo_plan           341,959           342,248
- *         ruvangixo_plan_chunks     47,015            47,096
+ *         ruvangixo_plan_chunks     56,295            56,376
  *         ruvangixo_chunks, ruvangixo_packets: below 1,000
  *
  *     The smallest thread stack on which sorting went through, tried in steps of 4,096 bytes, had 610,304 bytes in all. One of

@@ -1,5 +1,5 @@
-//! Types that stand at the end of a catalog as full as it may be, and names that lead through them. A type is found by
-//! going over all that stand before it, member by member, so each step of such a name takes long.
+//! Types that stand at the end of a catalog as full as it may be, and names that lead through them: each step of such a
+//! name takes long where a type is found by going over all that stand before it, member by member.
 
 use oracle::catalog::{Catalog, LIMIT, MOST_TYPES, Node, Type};
 use oracle::hand::shapes::{atomic, structure, type_of};

@@ -18,8 +18,13 @@ const CHAINS: usize = TAGS / (DEEPEST + 1);
 /// What is slow, with its catalog and list.
 pub fn lists() -> Vec<(&'static str, Catalog, List)> {
     vec![
-        ("126 tags of 128 bytes, 40 structs above each pair", pair_catalog(), pairs(126, 128)),
-        ("256 tags of 62 bytes, 18 structs above each pair", pair_catalog(), pairs(TAGS, LENGTH)),
+        ("126 tags of 128 bytes, 40 structs above each pair", pair_catalog(), pairs("A", 126, 128)),
+        ("256 tags of 62 bytes, 18 structs above each pair", pair_catalog(), pairs("A", TAGS, LENGTH)),
+        (
+            "126 tags of 128 bytes, 23 structs above each pair, the last of 1,024 tags of 54 bytes",
+            long_catalog(),
+            pairs(&long_name(MOST_TAGS - 1), 126, 128),
+        ),
         ("structs at the end of 1,024 tags alike but for the last bytes", alike_catalog(), alike(false)),
         ("the same in other letters", alike_catalog(), alike(true)),
         ("structs 16 deep, the last of 256 members at each level", deep_catalog(1), deep(false)),
@@ -54,13 +59,24 @@ fn pair_catalog() -> Catalog {
 
 /// Tags in pairs that differ in their last index only. The struct has no dimensions, so that each bracket names it again;
 /// the name that all have in common is barred, so that the pairs merge one by one.
-fn pairs(count: usize, length: usize) -> List {
+fn pairs(base: &str, count: usize, length: usize) -> List {
     let tag = |n: usize| {
-        let head = format!("A[{:0width$}]", n / 2, width = 3 + length % 3);
+        let head = format!("{base}[{:0width$}]", n / 2, width = 3 + (length - base.len() - 5) % 3);
         let brackets = (length - head.len()) / 3 - 1;
         format!("{head}{}[{}]", "[1]".repeat(brackets), n % 2)
     };
-    List { no_group: texts(&["a"]), ..listed((0..count).map(tag).collect()) }
+    List { no_group: texts(&[&base.to_ascii_lowercase()]), ..listed((0..count).map(tag).collect()) }
+}
+
+/// As many tags as a catalog may have, their names as long as it has room for, all structs.
+fn long_catalog() -> Catalog {
+    let tags = (0..MOST_TAGS).map(|n| structure(&long_name(n), "T", 12, &[])).collect();
+    Catalog { tags, types: vec![type_of("T", 12, two_members())] }
+}
+
+/// 54 bytes, alike but for the last four.
+fn long_name(n: usize) -> String {
+    format!("{}{n:04}", "x".repeat(50))
 }
 
 /// As many tags as a catalog may have, all structs.
@@ -176,8 +192,11 @@ mod tests {
 
     #[test]
     fn the_pairs_are_as_long_as_said() {
-        for (count, length, structs) in [(126, 128, 40), (super::TAGS, super::LENGTH, 18)] {
-            let tags = super::pairs(count, length).tags;
+        let long = super::long_name(0);
+        for (base, count, length, structs) in
+            [("A", 126, 128, 40), ("A", super::TAGS, super::LENGTH, 18), (long.as_str(), 126, 128, 23)]
+        {
+            let tags = super::pairs(base, count, length).tags;
             let brackets = |tag: &String| tag.matches('[').count();
             assert!(tags.iter().all(|tag| tag.len() == length && brackets(tag) == structs + 1), "{}", tags[0]);
         }
