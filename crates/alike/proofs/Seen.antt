@@ -11,21 +11,21 @@ use lib.ListN.{length, getD, set, length-set, replicate}
 use lib.Seq.{getD-set-same, getD-set-other}
 use lib.Dec.{eqb}
 use borrow.Author.Tests.{eqb-true, eqb-false}
-use Rattle.fields.proofs.Rows.{places-none, places-more, many-place-step}
 use Rattle.fields.specs.Text.{Text, alike}
 use Rattle.fields.specs.Format.{many}
 use Rattle.fields.specs.Places.{told, placeAt, placesFrom}
 use Rattle.fields.specs.declared.Checked.{Checked}
 use Rattle.fields.specs.declared.Checked.the-variants.{Good, Refused}
 use Rattle.fields.specs.declared.Refusal.the-variants.{NamesAlike}
+use Rattle.fields.proofs.Rows.{places-none, places-more, many-place-step}
 use Rattle.fields.proofs.Reading.{many-place-none}
+use Rattle.fields.proofs.Lists.{zeros, cond-same}
 use Rattle.catalog.specs.Catalog.{node}
 use Rattle.catalog.specs.Finding.{any}
 use Rattle.catalog.specs.Alike.{nameAt, firstAlike}
 use Rattle.catalog.proofs.Round.{lawful-node}
 use Rattle.alike.specs.Buckets.{bucketOf, alikeAt, namesBefore, Chained, here, on, Links, Searched}
 use Rattle.alike.proofs.Buckets.{alike-bucket}
-use Rattle.fields.proofs.Lists.{zeros}
 
 -- ---- tables
 at-set : (l : List ℕ) (i v k : ℕ) (P : ℕ → Type 0) → i < length l → (k ≡ i → P v) → ((k ≡ i → ⊥) → P (getD l k 0)) → P (getD (set l i v) k 0)
@@ -49,14 +49,10 @@ module _ (p : Text → Bool) (s places : List ℕ) where
   any-hit zero i h e = absurd (omega arith)
   any-hit (suc j) i h e = any-next j ∙ go (eqb i j) refl (any-hit j i)
     where
-      always : (a : Bool) → cond a true true ≡ true
-      always true = refl
-      always false = refl
-
       go : (b : Bool) → eqb i j ≡ b → (i < j → p (nameAt s (getD places i 0)) ≡ true → any p (namesBefore s places j) ≡ true)
           → cond (p (nameAt s (getD places j 0))) true (any p (namesBefore s places j)) ≡ true
       go true q r = let z : j ≡ i = sym (eqb-true i j q) in rw (z, e)
-      go false q r = let z = eqb-false i j q in rw (r (omega arith) e) (always (p (nameAt s (getD places j 0))))
+      go false q r = let z = eqb-false i j q in rw (r (omega arith) e) (cond-same (p (nameAt s (getD places j 0))) true)
 
   pub any-more : (j : ℕ) → p (nameAt s (getD places j 0)) ≡ false → any p (namesBefore s places j) ≡ false → any p (namesBefore s places (j + 1)) ≡ false
   any-more j e h = rw (add-one j, any-next j, e) h

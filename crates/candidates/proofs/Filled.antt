@@ -3,10 +3,10 @@
 use Prim.Native.Nat.{ℕ, _+_, _≤_, _<_}
 use native.Mathlib.Omega.{arith}
 use mathlib.Core.Path.{_≡_, refl, sym, ap, subst, _∙_}
-use mathlib.Core.List.{List, [], _∷_, _++_, append-nil}
-use lib.ListN.{length, take, set, length-append, length-set, take-append-drop}
+use mathlib.Core.List.{List, [], _∷_, _++_}
+use lib.ListN.{length, set, length-append, length-set}
 use Rattle.fields.specs.Writing.{patch, answered}
-use Rattle.fields.proofs.Patches.{patch-fits, patch-patch, patch-answered, length-patch, set-patch}
+use Rattle.fields.proofs.Patches.{patch-patch, patch-answered, length-patch, set-patch, patch-none}
 
 -- `now` was `old`; with `left` put at `at` it is `goal`
 pub record Filled (old goal now : List ℕ) (at : ℕ) (left : List ℕ) : Type 0 where
@@ -51,14 +51,11 @@ module _ (old goal now : List ℕ) (at : ℕ) where
         is = patch-patch now at t r (omega arith) ∙ ap (patch now at) (sym e) ∙ f .is;
       }
 
-  patch-none : at ≤ length now → patch now at [] ≡ now
-  patch-none h = let z : at + 0 ≡ at = omega arith in patch-fits now at [] (omega arith) ∙ rw (z, append-nil (take at now)) (take-append-drop at now)
-
   -- nothing is left
   pub filled-end : (left : List ℕ) → left ≡ [] → Filled old goal now at left → now ≡ goal
   filled-end left e f =
       let h : at + 0 ≤ length now = subst (λ (l : List ℕ). at + length l ≤ length now) e (f .room) in
-      sym (patch-none (omega arith)) ∙ ap (patch now at) (sym e) ∙ f .is
+      sym (patch-none now at) ∙ ap (patch now at) (sym e) ∙ f .is
 
   -- what is left may be told otherwise
   pub filled-as : (left r : List ℕ) → left ≡ r → Filled old goal now at left → Filled old goal now at r

@@ -12,12 +12,14 @@ use lib.ListN.{getD}
 use borrow.Author.Tests.{eqb-true, eqb-false, ltb-true, ltb-false}
 use Rattle.fields.specs.Text.{Text, same}
 use Rattle.fields.specs.Format.{All}
+use Rattle.fields.proofs.Lists.{and-false}
 use Rattle.planner.specs.Lists.{keep}
-use Rattle.candidates.specs.Columns.{rowKey, isKeyed, firstRows, positions}
 use Rattle.planner.specs.Rows.{Row}
+use Rattle.candidates.specs.Columns.{rowKey, isKeyed, firstRows, positions}
 use Rattle.candidates.specs.Heads.{Head, Heads, behind, isUnder}
 use Rattle.candidates.proofs.Sharing.{keep-none, keep-yes, keep-no, Apart}
-use Rattle.candidates.proofs.Keeping.{keep-same, keep-all, keep-both, each-behind, keep-behind}
+use Rattle.candidates.proofs.Kept.{keep-agree, keep-all, keep-twice}
+use Rattle.candidates.proofs.Positions.{each-behind, keep-behind}
 use Rattle.candidates.proofs.Heads.{key-same, key-turn}
 
 module _ (key : ℕ → Text) (heads : List ℕ) (n : ℕ) (H : Heads key n heads) where
@@ -55,19 +57,15 @@ module _ (key : ℕ → Text) (heads : List ℕ) (n : ℕ) (H : Heads key n head
     pub kept-under : (t : ℕ → Bool) → keep (λ k. t k && same (key j) (key k)) (behind n 0) ≡ keep (λ k. t k && isUnder heads j k) (behind n j)
     kept-under t =
         keep-behind (λ k. t k && same (key j) (key k)) n j (omega arith) before
-        ∙ keep-same (λ k. t k && same (key j) (key k)) (λ k. t k && isUnder heads j k) (behind n j)
+        ∙ keep-agree (λ k. t k && same (key j) (key k)) (λ k. t k && isUnder heads j k) (behind n j)
         (each-behind (λ k. (t k && same (key j) (key k)) ≡ (t k && isUnder heads j k)) n j after)
       where
-        none : (b : Bool) → (b && false) ≡ false
-        none true = refl
-        none false = refl
-
         differs : (k : ℕ) → k < j → (b : Bool) → same (key j) (key k) ≡ b → same (key j) (key k) ≡ false
         differs k l false q = q
         differs k l true q = absurd (true≢false (sym (key-turn key j k q) ∙ own-head j h e .none k l))
 
         before : (k : ℕ) → k < j → (t k && same (key j) (key k)) ≡ false
-        before k l = ap (λ (b : Bool). t k && b) (differs k l (same (key j) (key k)) refl) ∙ none (t k)
+        before k l = ap (λ (b : Bool). t k && b) (differs k l (same (key j) (key k)) refl) ∙ and-false (t k)
 
         after : (k : ℕ) → j ≤ k → k < n → (t k && same (key j) (key k)) ≡ (t k && isUnder heads j k)
         after k l m = ap (λ (b : Bool). t k && b) (sym (under-key k m))
@@ -137,7 +135,7 @@ module _ (nm : ℕ → Text) (row : ℕ → Row) (heads : List ℕ) (n : ℕ) (H
   seen-next : (i : ℕ) (xs : List Row) → keep (λ x. not (seen i x)) (keep (λ x. not (isKeyed nm (rowKey nm (row i)) x)) xs) ≡ keep (λ x. not (seen (i + 1) x)) xs
   unfolding seen
   seen-next i xs =
-      rw (add-one i) (keep-both (λ x. not (seen i x)) (λ x. not (isKeyed nm (rowKey nm (row i)) x)) xs ∙ keep-same _ _ xs (same-each xs))
+      rw (add-one i) (keep-twice (λ x. not (seen i x)) (λ x. not (isKeyed nm (rowKey nm (row i)) x)) xs ∙ keep-agree _ _ xs (same-each xs))
     where
       one : (a b : Bool) → (not a && not b) ≡ not (cond a true b)
       one true b = refl

@@ -1,8 +1,11 @@
 -- Laws on those of a list that pass a test: in rows, behind a function, and of tests that agree.
 -- Assumes nothing.
+use Prim.Native.Nat.{_≤_}
+use native.Mathlib.Omega.{arith}
 use mathlib.Core.Path.{_≡_, refl, sym, ap, ap₂, _∙_}
 use mathlib.Core.Bool.{Bool, true, false, cond, _&&_}
-use mathlib.Core.List.{List, [], _∷_, _++_, map, map-append}
+use mathlib.Core.List.{List, [], _∷_, _++_, map, map-append, append-assoc}
+use lib.ListN.{length}
 use Rattle.fields.specs.Format.{All}
 use Rattle.names.specs.Pieces.{joined}
 use Rattle.catalog.specs.Finding.{any}
@@ -46,6 +49,36 @@ unfolding keep
 keep-same p q [] h = refl
 keep-same p q (x ∷ xs) h = ap₂ (λ b r. cond b (x ∷ r) r) (h x) (keep-same p q xs h)
 
+-- by a test that all pass
+pub keep-all : {A : Type 0} (p : A → Bool) (xs : List A) → ((x : A) → p x ≡ true) → keep p xs ≡ xs
+unfolding keep
+keep-all p [] h = refl
+keep-all p (x ∷ xs) h = rw (h x) (ap (λ r. x ∷ r) (keep-all p xs h))
+
+-- of those that pass another test
+pub keep-twice : {A : Type 0} (p q : A → Bool) (xs : List A) → keep p (keep q xs) ≡ keep (λ x. q x && p x) xs
+unfolding keep
+keep-twice p q [] = refl
+keep-twice p q (x ∷ xs) = go (q x) refl (keep-twice p q xs)
+  where
+    go : (b : Bool) → q x ≡ b → keep p (keep q xs) ≡ keep (λ x. q x && p x) xs
+        → keep p (cond b (x ∷ keep q xs) (keep q xs)) ≡ cond (b && p x) (x ∷ keep (λ x. q x && p x) xs) (keep (λ x. q x && p x) xs)
+    go true e h = rw h
+    go false e h = h
+
+-- by two tests no more than by the second
+pub keep-fewer : {A : Type 0} (p q : A → Bool) (xs : List A) → length (keep (λ x. p x && q x) xs) ≤ length (keep q xs)
+unfolding keep
+keep-fewer p q [] = omega arith
+keep-fewer p q (x ∷ xs) = go (p x) (q x) (keep-fewer p q xs)
+  where
+    go : (a b : Bool) → length (keep (λ x. p x && q x) xs) ≤ length (keep q xs)
+        → length (cond (a && b) (x ∷ keep (λ x. p x && q x) xs) (keep (λ x. p x && q x) xs)) ≤ length (cond b (x ∷ keep q xs) (keep q xs))
+    go true true h = omega arith
+    go true false h = h
+    go false true h = omega arith
+    go false false h = h
+
 -- by two tests, one after the other
 pub keep-both : {A : Type 0} (p q : A → Bool) (xs : List A) → keep (λ x. p x && q x) xs ≡ keep p (keep q xs)
 unfolding keep
@@ -75,6 +108,12 @@ pub any-map : {A B : Type 0} (p : B → Bool) (f : A → B) (xs : List A) → an
 unfolding any
 any-map p f [] = refl
 any-map p f (x ∷ xs) = ap (cond (p (f x)) true) (any-map p f xs)
+
+-- rows of rows, in two
+pub joined-append : {A : Type 0} (xs ys : List (List A)) → joined (xs ++ ys) ≡ joined xs ++ joined ys
+unfolding joined
+joined-append [] ys = refl
+joined-append (x ∷ xs) ys = ap (λ l. x ++ l) (joined-append xs ys) ∙ sym (append-assoc x (joined xs) (joined ys))
 
 -- rows of rows, each behind a function
 pub joined-map : {A B C : Type 0} (f : B → C) (g : A → List B) (h : A → List C) (xs : List A)

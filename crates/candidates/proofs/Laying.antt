@@ -4,35 +4,19 @@ use Prim.Native.Nat.{ℕ, suc, _+_, _-_, _≤_, _<_}
 use native.Mathlib.Omega.{arith}
 use mathlib.Core.Path.{_≡_, refl, sym, ap, subst, _∙_}
 use mathlib.Core.Bool.{Bool, true, false}
-use mathlib.Core.List.{List, [], _∷_, _++_, map, append-assoc, append-nil, map-append}
-use lib.Dec.{leb}
-use lib.ListN.{length, take, drop, set, length-append, length-map, length-set, take-append-drop}
-use borrow.Author.Tests.{leb-true, leb-false}
+use mathlib.Core.List.{List, [], _∷_, _++_, map, append-nil, map-append}
+use lib.ListN.{length, set, length-append, length-map, length-set}
 use Rattle.fields.specs.Writing.{patch}
-use Rattle.fields.proofs.Patches.{patch-fits, patch-over, patch-patch, set-patch, length-patch}
+use Rattle.fields.proofs.Patches.{patch-patch, set-patch, length-patch, patch-none}
 use Rattle.names.specs.Pieces.{joined}
 use Rattle.planner.specs.Lists.{keep}
 use Rattle.candidates.specs.Columns.{Bunch, endsFrom, positions}
 use Rattle.candidates.specs.Runs.{Table, table, laid, Sized, Room, Put}
 use Rattle.candidates.proofs.Positions.{left-yes, left-no, left-none}
 use Rattle.candidates.proofs.Rising.{set-then}
+use Rattle.candidates.proofs.Kept.{joined-append}
 
 -- ---- lists
-
-pub patch-none : (d : List ℕ) (at : ℕ) → patch d at [] ≡ d
-patch-none d at = go (leb (at + 0) (length d)) refl
-  where
-    go : (b : Bool) → leb (at + 0) (length d) ≡ b → patch d at [] ≡ d
-    go true e = let z : at + 0 ≡ at = omega arith in patch-fits d at [] (leb-true (at + 0) (length d) e) ∙ rw z (seam (take at d) (drop at d) ∙ take-append-drop at d)
-      where
-        seam : (x y : List ℕ) → (x ++ []) ++ y ≡ x ++ y
-        seam x y = ap (λ (l : List ℕ). l ++ y) (append-nil x)
-    go false e = patch-over d at [] (leb-false (at + 0) (length d) e)
-
-joined-append : {A : Type 0} (xs ys : List (List A)) → joined (xs ++ ys) ≡ joined xs ++ joined ys
-unfolding joined
-joined-append [] ys = refl
-joined-append (x ∷ xs) ys = ap (λ l. x ++ l) (joined-append xs ys) ∙ sym (append-assoc x (joined xs) (joined ys))
 
 pub length-ends : (at : ℕ) (xs : List (List ℕ)) → length (endsFrom at xs) ≡ length xs
 unfolding endsFrom

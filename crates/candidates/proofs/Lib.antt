@@ -5,7 +5,6 @@ pub mod Filled
 pub mod Firsts
 pub mod Grouping
 pub mod Heads
-pub mod Keeping
 pub mod Structs
 pub mod Under
 pub mod Positions

@@ -10,11 +10,14 @@ use lib.Dec.{ltb}
 use lib.ListN.{length, getD}
 use borrow.Author.Tests.{eq-eqb, ne-eqb, lt-ltb, le-ltb}
 use Rattle.fields.specs.Text.{Text, alike}
+use Rattle.fields.specs.Format.{All}
 use Rattle.fields.specs.Places.{part}
 use Rattle.fields.specs.declared.Part.{Part}
 use Rattle.catalog.specs.Finding.{any}
 use Rattle.planner.specs.Lists.{keep, isOneOf}
-use Rattle.candidates.specs.Columns.{tagName, prefixPart, isOne, positions, elementsIn, arrayKey, sameArray, isPiece, isInRun}
+use Rattle.planner.specs.Rows.{isSet}
+use Rattle.candidates.specs.Columns.{tagName, prefixPart, positions, elementsIn, arrayKey, sameArray, isPiece, isInRun}
+use Rattle.candidates.specs.Heads.{behind}
 use Rattle.candidates.specs.Runs.{inArray, isCounted, isMember, isLast}
 use Rattle.candidates.proofs.Prefixes.{prefix-alike}
 use Rattle.candidates.proofs.Sharing.{keep-yes, keep-no}
@@ -38,6 +41,32 @@ positions-none j n h = let z : n - j ≡ 0 = omega arith in rw z
 pub positions-before : (j n : ℕ) → 0 < j → j ≤ n → positions (j - 1) (n - (j - 1)) ≡ (j - 1) ∷ positions j (n - j)
 positions-before j n h l = let z : j - 1 + 1 ≡ j = omega arith in positions-more (j - 1) n (omega arith) ∙ ap (λ k. (j - 1) ∷ positions k (n - k)) z
 
+pub each-position : (P : ℕ → Type 0) (i m : ℕ) → ((k : ℕ) → i ≤ k → k < i + m → P k) → All P (positions i m)
+unfolding positions
+each-position P i zero f = tt
+each-position P i (suc m) f = (f i (omega arith) (omega arith), each-position P (i + 1) m (λ k h l. f k (omega arith) (omega arith)))
+
+pub each-behind : (P : ℕ → Type 0) (n j : ℕ) → ((k : ℕ) → j ≤ k → k < n → P k) → All P (behind n j)
+unfolding behind
+each-behind P n j f = each-position P j (n - j) (λ k h l. f k h (omega arith))
+
+skipped : (p : ℕ → Bool) (i d m : ℕ) → ((k : ℕ) → k < i + d → p k ≡ false) → keep p (positions i (d + m)) ≡ keep p (positions (i + d) m)
+unfolding positions
+skipped p i zero m f = let a : 0 + m ≡ m = omega arith in let b : i + 0 ≡ i = omega arith in rw (a, b)
+skipped p i (suc d) m f =
+    let a : suc d + m ≡ suc (d + m) = omega arith in
+    let b : i + suc d ≡ i + 1 + d = omega arith in
+    rw (a, b) (keep-no p i (positions (i + 1) (d + m)) (f i (omega arith)) ∙ skipped p (i + 1) d m (λ k h. f k (omega arith)))
+
+-- no position before `j` passes
+pub keep-behind : (p : ℕ → Bool) (n j : ℕ) → j ≤ n → ((k : ℕ) → k < j → p k ≡ false) → keep p (behind n 0) ≡ keep p (behind n j)
+unfolding behind
+keep-behind p n j h f =
+    let a : n - 0 ≡ j + (n - j) = omega arith in
+    let b : 0 + j ≡ j = omega arith in
+    let z : keep p (positions 0 (j + (n - j))) ≡ keep p (positions (0 + j) (n - j)) = skipped p 0 j (n - j) (λ k l. f k (omega arith)) in
+    rw a (z ∙ ap (λ (i : ℕ). keep p (positions i (n - j))) b)
+
 -- ---- those that pass, and whether one does
 
 module _ {A : Type 0} (p : A → Bool) where
@@ -54,16 +83,6 @@ module _ {A : Type 0} (p : A → Bool) where
   any-none = refl
 
 module _ {A : Type 0} (f g : A → Bool) where
-  -- two tests in turn
-  pub keep-both : (xs : List A) → keep g (keep f xs) ≡ keep (λ x. f x && g x) xs
-  unfolding keep
-  keep-both [] = refl
-  keep-both (x ∷ xs) = go (f x) refl (keep-both xs)
-    where
-      go : (b : Bool) → f x ≡ b → keep g (keep f xs) ≡ keep (λ x. f x && g x) xs → keep g (cond b (x ∷ keep f xs) (keep f xs)) ≡ cond (b && g x) (x ∷ keep (λ x. f x && g x) xs) (keep (λ x. f x && g x) xs)
-      go true e h = ap (λ l. cond (g x) (x ∷ l) l) h
-      go false e h = h
-
   pub any-both : (xs : List A) → any g (keep f xs) ≡ any (λ x. f x && g x) xs
   unfolding keep any
   any-both [] = refl
@@ -104,15 +123,15 @@ in-array s places ends i j n m t u b x y v w e = rw (← x, ← y) (prefix-alike
 
 module _ (firsts widths : List ℕ) (q : ℕ) where
   pub counted-second : (getD firsts q 0 ≡ 1 → ⊥) → isCounted firsts widths q ≡ false
-  unfolding isCounted isOne
+  unfolding isCounted isSet
   counted-second h = rw (ne-eqb (getD firsts q 0) 1 h)
 
   pub counted-flat : getD widths q 0 ≡ 0 → isCounted firsts widths q ≡ false
   unfolding isCounted
-  counted-flat h = rw (le-ltb 0 (getD widths q 0) (omega arith)) (and-false (isOne firsts q))
+  counted-flat h = rw (le-ltb 0 (getD widths q 0) (omega arith)) (and-false (isSet firsts q))
 
   pub counted-yes : getD firsts q 0 ≡ 1 → (getD widths q 0 ≡ 0 → ⊥) → isCounted firsts widths q ≡ true
-  unfolding isCounted isOne
+  unfolding isCounted isSet
   counted-yes h k = rw (eq-eqb (getD firsts q 0) 1 h, lt-ltb 0 (getD widths q 0) (omega arith))
 
 module _ (nm : ℕ → Text) (firsts widths ends : List ℕ) (p : ℕ) where

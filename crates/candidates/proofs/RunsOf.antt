@@ -23,10 +23,11 @@ use Rattle.planner.specs.Tags.{Element, Tag, tagsOf}
 use Rattle.planner.specs.Candidates.{run, positionsOf, elementsOf, lastSpelled, isNear, clustersOf, isElement, runGroup, runsFrom, indexesOf, runsOfArray, runsOf}
 use Rattle.planner.specs.Merging.{noTag}
 use Rattle.planner.proofs.Each.{IfThere}
+use Rattle.planner.proofs.Listed.{tags-length}
 use Rattle.candidates.specs.Columns.{Bunch, Elements, positions, arrayKey, sameArray, isPiece, isFirstPiece, lastPieces, indexesIn, isInRun, bunchesFrom, arrayRuns, runsIn, bunchName, bunchKey, bunchShape, groupOf}
 use Rattle.candidates.proofs.Kept.{keep-map, any-map, joined-map}
 use Rattle.candidates.proofs.Known.{PieceOf}
-use Rattle.candidates.proofs.Told.{Listing, EachAt, each-at, Told, tags-length, told-at}
+use Rattle.candidates.proofs.Told.{Listing, EachAt, each-at, Told, told-at}
 
 -- what the columns of the elements say of a tag's, nothing but 0 where it is none
 pub record Lies (e : Elements) (p : ℕ) (o : Option Element) : Type 0 where

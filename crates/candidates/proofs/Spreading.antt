@@ -1,6 +1,6 @@
 -- How many runs there can be, and how many positions they serve: a tag lies in one array and in one cluster of it, so neither is more than
 -- there are tags. Assumes nothing.
-use Prim.Native.Nat.{ℕ, suc, _+_, _-_, _≤_, _<_}
+use Prim.Native.Nat.{ℕ, suc, _+_, _≤_, _<_}
 use native.Mathlib.Omega.{arith}
 use mathlib.Core.Path.{_≡_, refl, sym, ap, _∙_}
 use mathlib.Core.Bool.{Bool, true, false, cond, _&&_, true≢false, false≢true}
@@ -154,7 +154,7 @@ module _ (nm : ℕ → Text) (e : Elements) where
       go true a b k = absurd (true≢false b)
       go false a b k = (a, k b)
 
-  each-last : (P : ℕ → Type 0) (ps : List ℕ) → All P ps → All P (lastPieces nm e ps)
+  pub each-last : (P : ℕ → Type 0) (ps : List ℕ) → All P ps → All P (lastPieces nm e ps)
   unfolding lastPieces
   each-last P [] h = tt
   each-last P (p ∷ ps) h = cond-elim (All P) (any (sameArray nm e p) ps) (λ _. each-last P ps (h .1)) (λ _. (h .0, each-last P ps (h .1)))

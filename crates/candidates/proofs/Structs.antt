@@ -16,14 +16,14 @@ use Rattle.fields.specs.Writing.{answered}
 use Rattle.fields.proofs.Lists.{drop-next, and-left, and-right, all-weaken}
 use Rattle.names.specs.Pieces.{joined}
 use Rattle.planner.specs.Lists.{keep, sum}
+use Rattle.planner.specs.Rows.{Row, isSet}
 use Rattle.planner.proofs.Each.{each-kept}
-use Rattle.candidates.specs.Columns.{Bunch, tagName, isOne, rowsIn, rowKey, isKeyed, hasTwoNames, bunchOf, wholesIn, positions}
-use Rattle.planner.specs.Rows.{Row}
+use Rattle.candidates.specs.Columns.{Bunch, tagName, rowsIn, rowKey, isKeyed, hasTwoNames, bunchOf, wholesIn, positions}
 use Rattle.candidates.specs.Heads.{keyAt, Heads, behind, isUnder, isNameUnder, namesUnder, tagsUnder, isGroup, bunchAt, groupsFrom, Read, Room}
 use Rattle.candidates.proofs.Sharing.{length-joined, two-each, key-shares}
-use Rattle.candidates.proofs.Keeping.{keep-same, keep-both, keep-fewer, keep-map, map-same, each-behind}
+use Rattle.candidates.proofs.Kept.{keep-agree, keep-twice, keep-fewer, keep-map, map-agree}
 use Rattle.candidates.proofs.Firsts.{kept-under, firsts-apart, first-rows}
-use Rattle.candidates.proofs.Positions.{positions-length}
+use Rattle.candidates.proofs.Positions.{positions-length, each-behind}
 
 -- ---- the rows
 
@@ -76,12 +76,12 @@ module _ (s places firsts owners lengths sizes heads : List ℕ) (n : ℕ) (H : 
   group = isGroup firsts owners heads n
 
   module _ (j : ℕ) (h : j < n) (e : isUnder heads j j ≡ true) where
-    two-names : hasTwoNames nm (isOne firsts) rows (row j) ≡ leb 2 (namesUnder firsts owners heads n j)
+    two-names : hasTwoNames nm (isSet firsts) rows (row j) ≡ leb 2 (namesUnder firsts owners heads n j)
     unfolding hasTwoNames isKeyed rowKey namesUnder isNameUnder keyAt
     two-names =
-        ap (λ (l : List Row). leb 2 (length l)) (keep-map row (λ x. isOne firsts (x .tag) && same (key j) (rowKey nm x)) (behind n 0))
-        ∙ ap (leb 2) (length-map (keep (λ k. isOne firsts (getD owners k 0) && same (key j) (key k)) (behind n 0)) row)
-        ∙ ap (λ (l : List ℕ). leb 2 (length l)) (kept-under key heads n H j h e (λ k. isOne firsts (getD owners k 0)))
+        ap (λ (l : List Row). leb 2 (length l)) (keep-map (λ x. isSet firsts (x .tag) && same (key j) (rowKey nm x)) row (behind n 0))
+        ∙ ap (leb 2) (length-map (keep (λ k. isSet firsts (getD owners k 0) && same (key j) (key k)) (behind n 0)) row)
+        ∙ ap (λ (l : List ℕ). leb 2 (length l)) (kept-under key heads n H j h e (λ k. isSet firsts (getD owners k 0)))
 
     keyed-rows : keep (λ k. same (key j) (key k)) (behind n 0) ≡ keep (isUnder heads j) (behind n j)
     keyed-rows = kept-under key heads n H j h e (λ k. true)
@@ -89,7 +89,7 @@ module _ (s places firsts owners lengths sizes heads : List ℕ) (n : ℕ) (H : 
     tags-are : map (λ x. x .tag) (keep (isKeyed nm (rowKey nm (row j))) rows) ≡ tagsUnder owners heads n j
     unfolding isKeyed rowKey tagsUnder keyAt
     tags-are =
-        ap (map (λ x. x .tag)) (keep-map row (λ x. same (key j) (rowKey nm x)) (behind n 0))
+        ap (map (λ x. x .tag)) (keep-map (λ x. same (key j) (rowKey nm x)) row (behind n 0))
         ∙ map-map (λ x. x .tag) row (keep (λ k. same (key j) (key k)) (behind n 0))
         ∙ ap (map (λ k. getD owners k 0)) keyed-rows
 
@@ -107,15 +107,15 @@ module _ (s places firsts owners lengths sizes heads : List ℕ) (n : ℕ) (H : 
     unfolding namesUnder isNameUnder tagsUnder
     tags-many =
         let l = length-map (keep (isUnder heads j) (behind n j)) (λ k. getD owners k 0) in
-        let f = keep-fewer (λ k. isOne firsts (getD owners k 0)) (isUnder heads j) (behind n j) in
+        let f = keep-fewer (λ k. isSet firsts (getD owners k 0)) (isUnder heads j) (behind n j) in
         omega arith
 
   -- the test of the definition is the test of the column
-  group-is : (j : ℕ) → j < n → (isUnder heads j j && hasTwoNames nm (isOne firsts) rows (row j)) ≡ group j
+  group-is : (j : ℕ) → j < n → (isUnder heads j j && hasTwoNames nm (isSet firsts) rows (row j)) ≡ group j
   unfolding isGroup
   group-is j h = go (isUnder heads j j) refl
     where
-      go : (b : Bool) → isUnder heads j j ≡ b → (b && hasTwoNames nm (isOne firsts) rows (row j)) ≡ (b && leb 2 (namesUnder firsts owners heads n j))
+      go : (b : Bool) → isUnder heads j j ≡ b → (b && hasTwoNames nm (isSet firsts) rows (row j)) ≡ (b && leb 2 (namesUnder firsts owners heads n j))
       go true e = two-names j h e
       go false e = refl
 
@@ -139,20 +139,20 @@ module _ (s places firsts owners lengths sizes heads : List ℕ) (n : ℕ) (H : 
 
   -- the definition's test at a position, and its group
   abbrev two : ℕ → Bool
-  two j = hasTwoNames nm (isOne firsts) rows (row j)
+  two j = hasTwoNames nm (isSet firsts) rows (row j)
 
   abbrev bunch : ℕ → Bunch
   bunch j = bunchOf nm rows (row j)
 
-  pub wholes-are : wholesIn nm (isOne firsts) rows ≡ groupsFrom firsts owners lengths sizes heads n 0
+  pub wholes-are : wholesIn nm (isSet firsts) rows ≡ groupsFrom firsts owners lengths sizes heads n 0
   unfolding wholesIn groupsFrom keyAt rowKey
   wholes-are =
-      ap (λ (l : List Row). map (bunchOf nm rows) (keep (hasTwoNames nm (isOne firsts) rows) l)) (first-rows nm row heads n H)
-      ∙ ap (map (bunchOf nm rows)) (keep-map row (hasTwoNames nm (isOne firsts) rows) (keep (λ j. isUnder heads j j) (behind n 0)))
+      ap (λ (l : List Row). map (bunchOf nm rows) (keep (hasTwoNames nm (isSet firsts) rows) l)) (first-rows nm row heads n H)
+      ∙ ap (map (bunchOf nm rows)) (keep-map (hasTwoNames nm (isSet firsts) rows) row (keep (λ j. isUnder heads j j) (behind n 0)))
       ∙ map-map (bunchOf nm rows) row (keep two (keep (λ j. isUnder heads j j) (behind n 0)))
-      ∙ ap (map bunch) (keep-both two (λ j. isUnder heads j j) (behind n 0))
-      ∙ ap (map bunch) (keep-same (λ j. isUnder heads j j && two j) group (behind n 0) (each-behind (λ j. (isUnder heads j j && two j) ≡ group j) n 0 (λ k h l. group-is k l)))
-      ∙ map-same bunch (bunchAt owners lengths sizes heads n) starts (each-start (λ j. bunch j ≡ bunchAt owners lengths sizes heads n j) (λ j h e. bunch-is j h (group-own j e)))
+      ∙ ap (map bunch) (keep-twice two (λ j. isUnder heads j j) (behind n 0))
+      ∙ ap (map bunch) (keep-agree (λ j. isUnder heads j j && two j) group (behind n 0) (each-behind (λ j. (isUnder heads j j && two j) ≡ group j) n 0 (λ k h l. group-is k l)))
+      ∙ map-agree bunch (bunchAt owners lengths sizes heads n) starts (each-start (λ j. bunch j ≡ bunchAt owners lengths sizes heads n j) (λ j h e. bunch-is j h (group-own j e)))
 
   -- ---- room for them
 
@@ -168,7 +168,7 @@ module _ (s places firsts owners lengths sizes heads : List ℕ) (n : ℕ) (H : 
   served-count =
       ap (λ (l : List (List ℕ)). length (joined l)) (map-map (λ b. b .serves) (bunchAt owners lengths sizes heads n) starts)
       ∙ length-joined (tagsUnder owners heads n) starts
-      ∙ ap sum (map-same (λ j. length (tagsUnder owners heads n j)) share starts (each-start (λ j. length (tagsUnder owners heads n j) ≡ share j) (λ j h e. tags-count j h (group-own j e))))
+      ∙ ap sum (map-agree (λ j. length (tagsUnder owners heads n j)) share starts (each-start (λ j. length (tagsUnder owners heads n j) ≡ share j) (λ j h e. tags-count j h (group-own j e))))
 
   pub served-most : length (joined (map (λ b. b .serves) groups)) ≤ n
   unfolding behind
@@ -205,10 +205,10 @@ module _ (s places firsts owners lengths sizes heads : List ℕ) (n : ℕ) (H : 
 
   module _ (count : ℕ) (e : n ≡ min count 16384) (o : length owners ≡ 16384) (l : length lengths ≡ 16384) (z : length sizes ≡ 16384) where
     abbrev structs : List Bunch
-    structs = wholesIn nm (isOne firsts) (rowsIn (take count owners) lengths sizes)
+    structs = wholesIn nm (isSet firsts) (rowsIn (take count owners) lengths sizes)
 
     structs-are : structs ≡ groups
-    structs-are = ap (wholesIn nm (isOne firsts)) (rows-are owners lengths sizes count n (omega arith) (omega arith) (omega arith)) ∙ wholes-are
+    structs-are = ap (wholesIn nm (isSet firsts)) (rows-are owners lengths sizes count n (omega arith) (omega arith) (omega arith)) ∙ wholes-are
 
     pub structs-count : (r : ℕ) → r ≡ length groups → (r ≡ length structs) × (r ≤ 8192)
     structs-count r f = let g = groups-most in (f ∙ ap length (sym structs-are), omega arith)

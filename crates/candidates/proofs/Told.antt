@@ -15,8 +15,8 @@ use Rattle.planner.specs.Tags.{Tag, tagsOf}
 use Rattle.planner.specs.Merging.{noTag}
 use Rattle.planner.proofs.Each.{each-getD}
 use Rattle.planner.proofs.Serving.{text-at}
+use Rattle.planner.proofs.Listed.{tags-length}
 use Rattle.candidates.proofs.Known.{Known, tags-known}
-use Rattle.planner.proofs.Listed.{tags-long}
 
 -- the columns of a list's tags: the name of each, and whether it is the first so called
 pub record Listing (c : Catalog) (w : TagList) (nm : ℕ → Text) (first : ℕ → Bool) : Type 0 where
@@ -49,10 +49,6 @@ unfolding noTag
 nothing-known = record { above = tt; falls = tt; element = tt }
 
 module _ (c : Catalog) (w : TagList) where
-  pub tags-length : length (tagsOf c w) ≡ length (w .tags)
-  unfolding tagsOf
-  tags-length = tags-long c w [] (w .tags)
-
   pub known-at : (p : ℕ) → Known (getD (tagsOf c w) p noTag)
   unfolding tagsOf
   known-at p = each-getD Known (tagsOf c w) p noTag (tags-known c w [] (w .tags)) nothing-known
@@ -64,7 +60,7 @@ module _ (c : Catalog) (w : TagList) where
   module _ (nm : ℕ → Text) (first : ℕ → Bool) (h : Listing c w nm first) where
     pub told-at : (p : ℕ) → p < length (tagsOf c w) → Told nm first p (getD (tagsOf c w) p noTag)
     told-at p l =
-        let m : p < length (w .tags) = omega (arith, tags-length) in
+        let m : p < length (w .tags) = omega (arith, tags-length c w) in
         record { name = h .names p m ∙ sym (name-at p); is-first = h .firsts p m; known = known-at p }
 
     -- each tag is as its columns tell

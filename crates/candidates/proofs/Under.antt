@@ -9,12 +9,12 @@ use lib.Dec.{leb}
 use lib.ListN.{length, getD, set}
 use borrow.Author.Tests.{eq-eqb, ne-eqb}
 use Rattle.fields.specs.Writing.{patch}
+use Rattle.fields.proofs.Lists.{and-false}
 use Rattle.planner.specs.Lists.{keep}
-use Rattle.candidates.specs.Columns.{isOne}
+use Rattle.planner.specs.Rows.{isSet}
 use Rattle.candidates.specs.Heads.{behind, isUnder, isNameUnder, namesUnder, tagsUnder, isGroup}
 use Rattle.candidates.proofs.Behind.{kept-yes, kept-no, kept-end}
 use Rattle.candidates.proofs.Filled.{Filled, filled-start, filled-there, filled-one, filled-as, filled-end}
-use Rattle.fields.proofs.Lists.{and-false}
 
 -- ---- one row
 
@@ -46,16 +46,16 @@ module _ (firsts owners heads : List ℕ) (rows j : ℕ) where
     -- the row has another key
     pub counting-other : (p ≡ j → ⊥) → Counting n (k + 1)
     unfolding isNameUnder
-    counting-other q = skipped (rw (under-no heads j k p e q) (and-false (isOne firsts (getD owners k 0))))
+    counting-other q = skipped (rw (under-no heads j k p e q) (and-false (isSet firsts (getD owners k 0))))
 
     module _ (q : p ≡ j) (o : ℕ) (f : o ≡ getD owners k 0) where
       -- its name was met before
       pub counting-again : (getD firsts o 0 ≡ 1 → ⊥) → Counting n (k + 1)
-      unfolding isNameUnder isOne
+      unfolding isNameUnder isSet
       counting-again z = skipped (rw (ne-eqb (getD firsts (getD owners k 0) 0) 1 (λ y. z (ap (λ (x : ℕ). getD firsts x 0) f ∙ y))))
 
       pub counting-more : getD firsts o 0 ≡ 1 → Counting (n + 1) (k + 1)
-      unfolding isNameUnder isOne
+      unfolding isNameUnder isSet
       counting-more z =
           let m = c .few in
           let u = under-yes heads j k p e q in

@@ -21,9 +21,9 @@ use Rattle.lists.specs.Lists.{TagList}
 use Rattle.planner.specs.Lists.{keep, isThere}
 use Rattle.planner.specs.Tags.{Above, Tag, tagsOf}
 use Rattle.planner.specs.Candidates.{whole, positionsOf, aboveBy, isUnder, hasTwo, firstSpelled, structsOf, structGroup}
+use Rattle.planner.specs.Rows.{Row, rowsFrom, rowOf}
 use Rattle.planner.proofs.Each.{each-keep, each-map}
 use Rattle.candidates.specs.Columns.{Bunch, rowKey, isKeyed, firstRows, hasTwoNames, bunchOf, wholesIn, bunchName, bunchKey, bunchShape, groupOf}
-use Rattle.planner.specs.Rows.{Row, rowsFrom, rowOf}
 use Rattle.candidates.proofs.Kept.{cond-append, keep-append, keep-map, keep-same, keep-both, map-same}
 use Rattle.candidates.proofs.Known.{Spells, Falls}
 use Rattle.candidates.proofs.Told.{Listing, EachAt, Told, tags-told}
@@ -39,6 +39,12 @@ rowAbove nm r = namedAbove (take (r .end) (nm (r .tag))) (r .size)
 -- the struct of a group
 unfoldable pub bunchAbove : (ℕ → Text) → Bunch → Above
 bunchAbove nm b = namedAbove (bunchName nm b) (b .weight)
+
+-- what holds of each row holds of those that are the first with their key
+pub each-first : (nm : ℕ → Text) (P : Row → Type 0) (rs : List Row) → All P rs → All P (firstRows nm rs)
+unfolding firstRows
+each-first nm P [] h = tt
+each-first nm P (r ∷ rs) h = (h .0, each-keep P (λ x. not (isKeyed nm (rowKey nm r) x)) (firstRows nm rs) (each-first nm P rs (h .1)))
 
 module _ (nm : ℕ → Text) (first : ℕ → Bool) where
   -- ---- rows and structs
@@ -93,11 +99,6 @@ module _ (nm : ℕ → Text) (first : ℕ → Bool) where
       all-append Ends (map (rowOf i) (t .above)) (rowsFrom (i + 1) ts)
       (each-map (Spells t) Ends (rowOf i) (t .above) (λ a s. row-ends i t a (h .0) s) (h .0 .known .above)) (rows-end (i + 1) ts (h .1))
 
-  each-first : (P : Row → Type 0) (rs : List Row) → All P rs → All P (firstRows nm rs)
-  unfolding firstRows
-  each-first P [] h = tt
-  each-first P (r ∷ rs) h = (h .0, each-keep P (λ x. not (isKeyed nm (rowKey nm r) x)) (firstRows nm rs) (each-first P rs (h .1)))
-
   -- what holds of the groups of such rows holds of all groups
   pub of-wholes : (Q : Bunch → Type 0) (ts : List Tag) → EachAt (Told nm first) 0 ts
       → ((r : Row) → Ends r → Q (bunchOf nm (rowsFrom 0 ts) r)) → All Q (wholesIn nm first (rowsFrom 0 ts))
@@ -105,7 +106,7 @@ module _ (nm : ℕ → Text) (first : ℕ → Bool) where
   of-wholes Q ts h k =
       let rs = rowsFrom 0 ts in
       each-map Ends Q (bunchOf nm rs) (keep (hasTwoNames nm first rs) (firstRows nm rs)) k
-      (each-keep Ends (hasTwoNames nm first rs) (firstRows nm rs) (each-first Ends rs (rows-end 0 ts h)))
+      (each-keep Ends (hasTwoNames nm first rs) (firstRows nm rs) (each-first nm Ends rs (rows-end 0 ts h)))
 
   -- ---- the tags under a struct
 

@@ -35,10 +35,6 @@ tagName s places p = nameAt s (getD places p 0)
 unfoldable pub prefixPart : List ℕ → ℕ → ℕ → Part
 prefixPart s at n = record { start = textPart s at .start; end = min (textPart s at .end) (textPart s at .start + n) }
 
--- whether a flag of a column is 1
-unfoldable pub isOne : List ℕ → ℕ → Bool
-isOne flags p = eqb (getD flags p 0) 1
-
 -- the rows that three columns tell
 unfoldable pub rowsIn : List ℕ → List ℕ → List ℕ → List Row
 rowsIn [] es zs = []

@@ -10,7 +10,8 @@ use lib.ListN.{length, take, getD}
 use Rattle.fields.specs.Text.{Text, lowered, same}
 use Rattle.names.specs.Pieces.{joined}
 use Rattle.planner.specs.Lists.{keep}
-use Rattle.candidates.specs.Columns.{Bunch, tagName, isOne, positions}
+use Rattle.planner.specs.Rows.{isSet}
+use Rattle.candidates.specs.Columns.{Bunch, tagName, positions}
 
 -- the key of the row at a position: the list file, the places of its tags, the tag and the end of each row
 unfoldable pub keyAt : List ℕ → List ℕ → List ℕ → List ℕ → ℕ → Text
@@ -36,7 +37,7 @@ isUnder heads j k = eqb (getD heads k 0) j
 
 -- whether it has, and its tag is the first so called
 unfoldable pub isNameUnder : List ℕ → List ℕ → List ℕ → ℕ → ℕ → Bool
-isNameUnder firsts owners heads j k = isOne firsts (getD owners k 0) && isUnder heads j k
+isNameUnder firsts owners heads j k = isSet firsts (getD owners k 0) && isUnder heads j k
 
 -- how many different names lie under the struct of the row at `j`
 unfoldable pub namesUnder : List ℕ → List ℕ → List ℕ → ℕ → ℕ → ℕ

@@ -11,7 +11,8 @@ use Rattle.fields.specs.Text.{Text, alike}
 use Rattle.fields.specs.Writing.{patch}
 use Rattle.names.specs.Pieces.{joined}
 use Rattle.catalog.specs.Finding.{any}
-use Rattle.candidates.specs.Columns.{Bunch, isOne, endsFrom, positions}
+use Rattle.planner.specs.Rows.{isSet}
+use Rattle.candidates.specs.Columns.{Bunch, endsFrom, positions}
 
 -- whether two tags have the same array, by the column of its ends
 unfoldable pub inArray : (ℕ → Text) → List ℕ → ℕ → ℕ → Bool
@@ -19,7 +20,7 @@ inArray nm ends p q = alike (take (getD ends p 0) (nm p)) (take (getD ends q 0) 
 
 -- whether a tag is an element and the first so called, by the columns
 unfoldable pub isCounted : List ℕ → List ℕ → ℕ → Bool
-isCounted firsts widths q = isOne firsts q && ltb 0 (getD widths q 0)
+isCounted firsts widths q = isSet firsts q && ltb 0 (getD widths q 0)
 
 -- whether it is one of the array of the tag `p`
 unfoldable pub isMember : (ℕ → Text) → List ℕ → List ℕ → List ℕ → ℕ → ℕ → Bool

@@ -10,7 +10,8 @@ ghost use lib.ListN.{length, take};
 ghost use Rattle.fields.specs.Text.{same};
 ghost use Rattle.fields.specs.Writing.{patch, answered};
 ghost use Rattle.names.specs.Pieces.{joined};
-ghost use Rattle.candidates.specs.Columns.{tagName, isOne, rowsIn, wholesIn, endsFrom};
+ghost use Rattle.planner.specs.Rows.{isSet};
+ghost use Rattle.candidates.specs.Columns.{tagName, rowsIn, wholesIn, endsFrom};
 ghost use Rattle.candidates.specs.Heads.{keyAt, Head, Heads, namesUnder, tagsUnder, isGroup, groupsFrom, Read, Room};
 
 // A row's position as a number to count with.
@@ -213,12 +214,12 @@ pub fn struct_groups(
     stops: &mut [u16; 8448],
     serves: &mut [u8; 16640],
 ) -> usize
-    ensures count { λ r. ⌜ (r ≡ length (wholesIn (tagName (now (list .entry)) (now (places .entry))) (isOne (now (firsts .entry))) (rowsIn (take rows (now (owners .entry))) (now (lengths .entry)) (now (sizes .entry))))) × (r ≤ 8192) ⌝ }
-    ensures tags { λ r. ⌜ now (spellers .exit) ≡ answered (map (λ b. b .tag) (wholesIn (tagName (now (list .entry)) (now (places .entry))) (isOne (now (firsts .entry))) (rowsIn (take rows (now (owners .entry))) (now (lengths .entry)) (now (sizes .entry))))) (now (spellers .entry)) ⌝ }
-    ensures ends { λ r. ⌜ now (spans .exit) ≡ answered (map (λ b. b .end) (wholesIn (tagName (now (list .entry)) (now (places .entry))) (isOne (now (firsts .entry))) (rowsIn (take rows (now (owners .entry))) (now (lengths .entry)) (now (sizes .entry))))) (now (spans .entry)) ⌝ }
-    ensures sizes { λ r. ⌜ now (weights .exit) ≡ answered (map (λ b. b .weight) (wholesIn (tagName (now (list .entry)) (now (places .entry))) (isOne (now (firsts .entry))) (rowsIn (take rows (now (owners .entry))) (now (lengths .entry)) (now (sizes .entry))))) (now (weights .entry)) ⌝ }
-    ensures served { λ r. ⌜ now (stops .exit) ≡ answered (endsFrom 0 (map (λ b. b .serves) (wholesIn (tagName (now (list .entry)) (now (places .entry))) (isOne (now (firsts .entry))) (rowsIn (take rows (now (owners .entry))) (now (lengths .entry)) (now (sizes .entry)))))) (now (stops .entry)) ⌝ }
-    ensures positions { λ r. ⌜ now (serves .exit) ≡ answered (joined (map (λ b. b .serves) (wholesIn (tagName (now (list .entry)) (now (places .entry))) (isOne (now (firsts .entry))) (rowsIn (take rows (now (owners .entry))) (now (lengths .entry)) (now (sizes .entry)))))) (now (serves .entry)) ⌝ }
+    ensures count { λ r. ⌜ (r ≡ length (wholesIn (tagName (now (list .entry)) (now (places .entry))) (isSet (now (firsts .entry))) (rowsIn (take rows (now (owners .entry))) (now (lengths .entry)) (now (sizes .entry))))) × (r ≤ 8192) ⌝ }
+    ensures tags { λ r. ⌜ now (spellers .exit) ≡ answered (map (λ b. b .tag) (wholesIn (tagName (now (list .entry)) (now (places .entry))) (isSet (now (firsts .entry))) (rowsIn (take rows (now (owners .entry))) (now (lengths .entry)) (now (sizes .entry))))) (now (spellers .entry)) ⌝ }
+    ensures ends { λ r. ⌜ now (spans .exit) ≡ answered (map (λ b. b .end) (wholesIn (tagName (now (list .entry)) (now (places .entry))) (isSet (now (firsts .entry))) (rowsIn (take rows (now (owners .entry))) (now (lengths .entry)) (now (sizes .entry))))) (now (spans .entry)) ⌝ }
+    ensures sizes { λ r. ⌜ now (weights .exit) ≡ answered (map (λ b. b .weight) (wholesIn (tagName (now (list .entry)) (now (places .entry))) (isSet (now (firsts .entry))) (rowsIn (take rows (now (owners .entry))) (now (lengths .entry)) (now (sizes .entry))))) (now (weights .entry)) ⌝ }
+    ensures served { λ r. ⌜ now (stops .exit) ≡ answered (endsFrom 0 (map (λ b. b .serves) (wholesIn (tagName (now (list .entry)) (now (places .entry))) (isSet (now (firsts .entry))) (rowsIn (take rows (now (owners .entry))) (now (lengths .entry)) (now (sizes .entry)))))) (now (stops .entry)) ⌝ }
+    ensures positions { λ r. ⌜ now (serves .exit) ≡ answered (joined (map (λ b. b .serves) (wholesIn (tagName (now (list .entry)) (now (places .entry))) (isSet (now (firsts .entry))) (rowsIn (take rows (now (owners .entry))) (now (lengths .entry)) (now (sizes .entry)))))) (now (serves .entry)) ⌝ }
 {
     let mut heads = [0; 16384];
     let n = at_most(rows);

@@ -1,6 +1,6 @@
 -- The loop over all tags: each column holds what the tags so far give, and the others are left.
 -- Assumes nothing.
-use Prim.Native.Nat.{ℕ, _+_, _-_, _*_, _≤_, _<_}
+use Prim.Native.Nat.{ℕ, _+_, _*_, _≤_, _<_}
 use native.Mathlib.Omega.{arith}
 use mathlib.Core.Path.{_≡_, refl, sym, ap, subst, _∙_}
 use mathlib.Core.Bool.{Bool, not}
@@ -21,12 +21,13 @@ use Rattle.planner.specs.Lists.{given}
 use Rattle.planner.specs.Tags.{Element, Tag, isFirstSpelling, tagBehind, tagsOf}
 use Rattle.planner.specs.Serving.{once}
 use Rattle.planner.specs.Rows.{Row, rowOf, rowsFrom}
+use Rattle.planner.proofs.Listed.{tags-length}
 use Rattle.considered.specs.Considered.{widthOf, indexOf, arrayOf, requestOf, replyOf}
 use Rattle.considered.specs.Answers.{Limited, firstAlike, Columns, TagColumns, elementTold, aboveIn, elementIn, ViewTold}
 use Rattle.considered.specs.declared.View.{View}
 use Rattle.considered.proofs.Tabling.{put-columns}
 use Rattle.considered.proofs.Alikes.{first-is, spelling-is}
-use Rattle.considered.proofs.Listing.{left, tagHere, left-more, left-end, left-start, tags-length, above-is, element-is, limited-at, tag-few, rows-few, rows-more}
+use Rattle.considered.proofs.Listing.{left, tagHere, left-more, left-end, left-start, above-is, element-is, limited-at, tag-few, rows-few, rows-more}
 
 -- ---- a column of the tags, and one of the rows
 abbrev pub Column : Catalog → TagList → (Tag → ℕ) → List ℕ → List ℕ → ℕ → Type 0

@@ -9,6 +9,7 @@ use lib.ListN.{length, drop, getD, List·getD-append}
 use Rattle.fields.specs.Format.{fine, isFine}
 use Rattle.fields.specs.Writing.{answered}
 use Rattle.fields.proofs.Lists.{and-right, and-false}
+use Rattle.fields.proofs.Verdicts.{fine-is}
 use Rattle.catalog.specs.Catalog.{catalogOf}
 use Rattle.types.specs.Whole.{isMarkable, wholeOf, WholeTold}
 use Rattle.structs.proofs.Marked.{marked-is}
@@ -17,11 +18,10 @@ use Rattle.lists.specs.Access.{tagPlaces}
 use Rattle.lists.proofs.TagPlaces.{tag-places-length}
 use Rattle.planner.specs.Tags.{Tag, tagsOf}
 use Rattle.planner.specs.Rows.{Row, rowsFrom}
+use Rattle.planner.proofs.Listed.{tags-length}
 use Rattle.considered.specs.Considered.{isViewed, viewed, viewedPlaces, viewCount}
 use Rattle.considered.specs.declared.Considered.{Considered}
 use Rattle.considered.specs.Answers.{TagsPlaced, MarksTold}
-use Rattle.considered.proofs.Listing.{tags-length}
-use Rattle.fields.proofs.Verdicts.{fine-is}
 
 -- ---- whether they are
 and-yes : (b : Bool) → (b && true) ≡ b

@@ -1,6 +1,6 @@
 -- The tags of a list: what is left of them behind a position, the limits that an accepted list sets them, and how many rows they have.
 -- Assumes nothing.
-use Prim.Native.Nat.{ℕ, zero, suc, _+_, _-_, _*_, _≤_, _<_}
+use Prim.Native.Nat.{ℕ, zero, suc, _+_, _*_, _≤_, _<_}
 use native.Mathlib.Omega.{arith}
 use native.Mathlib.Numerals.{add-one}
 use mathlib.Core.Path.{_≡_, refl, sym, ap, subst, _∙_}
@@ -25,7 +25,6 @@ use Rattle.planner.proofs.Each.{each-getD}
 use Rattle.planner.proofs.Writable.{listed-within}
 use Rattle.considered.specs.Answers.{Limited, isCounted, aboveIn, elementIn}
 use Rattle.considered.proofs.Named.{name-read}
-use Rattle.planner.proofs.Listed.{tags-long}
 
 -- ---- what is left behind a position
 abbrev pub left : Catalog → TagList → ℕ → List Tag
@@ -48,10 +47,6 @@ left-end c w i h = ap (tagsBehind c w (take i (w .tags))) (drop-of-length-le (w 
 pub left-start : (c : Catalog) (w : TagList) → left c w 0 ≡ tagsOf c w
 unfolding tagsOf
 left-start c w = refl
-
-pub tags-length : (c : Catalog) (w : TagList) → length (tagsOf c w) ≡ length (w .tags)
-unfolding tagsOf
-tags-length c w = tags-long c w [] (w .tags)
 
 -- ---- one of them
 module _ (c : Catalog) (w : TagList) (i : ℕ) (known : Bool) (e : known ≡ isFirstSpelling (take i (w .tags)) (getD (w .tags) i [])) where

@@ -3,19 +3,14 @@
 use Prim.Native.Nat.{ℕ, _+_, _≤_, _<_}
 use native.Mathlib.Omega.{arith}
 use mathlib.Core.Path.{_≡_, refl, sym, ap, ap₂, _∙_}
-use mathlib.Core.List.{List, [], _++_, map, append-nil, map-append}
-use lib.ListN.{length, take, set, length-append, length-map, take-append-drop}
+use mathlib.Core.List.{List, [], _++_, map, map-append}
+use lib.ListN.{length, set, length-append, length-map}
 use Rattle.fields.specs.Writing.{patch}
-use Rattle.fields.proofs.Patches.{patch-fits, patch-patch, set-patch, length-patch}
+use Rattle.fields.proofs.Patches.{patch-patch, set-patch, length-patch, patch-none}
 use Rattle.lookup.specs.declared.Bytes.{Bytes}
 use Rattle.lookup.specs.declared.Bytes.the-variants.{Known, Unknown}
 use Rattle.planner.specs.Rows.{Row}
 use Rattle.considered.specs.Answers.{rowTold, Columns, RowsPut}
-
-patch-none : (d : List ℕ) (at : ℕ) → at ≤ length d → d ≡ patch d at []
-patch-none d at h =
-    let z : at + 0 ≡ at = omega arith in
-    sym (patch-fits d at [] (omega arith) ∙ rw (z, append-nil (take at d)) (take-append-drop at d))
 
 column-more : (f : Row → ℕ) (d o o′ : List ℕ) (at m : ℕ) (xs ys : List Row) → m ≡ at + length xs → at + length xs + length ys ≤ length d
     → o ≡ patch d at (map f xs) → o′ ≡ patch o m (map f ys) → o′ ≡ patch d at (map f (xs ++ ys))
@@ -31,7 +26,7 @@ module _ (o l z : List ℕ) (at : ℕ) (k : Columns o l z) where
       let a = k .owners-room in
       let b = k .lengths-room in
       let c = k .sizes-room in
-      record { past = omega arith; owned = patch-none o at (omega arith); long = patch-none l at (omega arith); sized = patch-none z at (omega arith) }
+      record { past = omega arith; owned = sym (patch-none o at); long = sym (patch-none l at); sized = sym (patch-none z at) }
 
   -- the row of a struct, by its size
   pub put-unknown : (i e : ℕ) (s : Bytes) → at < 16384 → s ≡ Unknown → RowsPut (rowTold i e s) o l z at o l z at

@@ -25,6 +25,10 @@ pub at-cond : {A B : Type 0} (f : A → B) (b : Bool) (x y : A) → f (cond b x 
 at-cond f true x y = refl
 at-cond f false x y = refl
 
+pub cond-same : {A : Type 0} (b : Bool) (x : A) → cond b x x ≡ x
+cond-same true x = refl
+cond-same false x = refl
+
 pub and-left : (x y : Bool) → (x && y) ≡ true → x ≡ true
 and-left true y e = refl
 and-left false y e = e
@@ -56,6 +60,19 @@ drop-next s i h = rw (add-one, drop-cons s i 0)
 pub drop-past : (s : List ℕ) (i : ℕ) → length s ≤ i → drop i s ≡ []
 drop-past s i h = drop-of-length-le s h
 
+-- what is left of the first `n`
+pub front-end : {A : Type 0} (l : List A) (n i : ℕ) → n ≤ i → drop i (take n l) ≡ []
+front-end l n i h = let t = length-take n l in let z : length (take n l) ≤ i = omega arith in drop-of-length-le (take n l) z
+
+pub empty-list : {A : Type 0} (l : List A) → length l ≡ 0 → l ≡ []
+empty-list [] e = refl
+empty-list (x ∷ l) e = absurd (omega arith)
+
+pub all-drop : {A : Type 0} (P : A → Type 0) (n : ℕ) (l : List A) → All P l → All P (drop n l)
+all-drop P zero l h = h
+all-drop P (suc n) [] h = tt
+all-drop P (suc n) (x ∷ l) h = all-drop P n l (h .1)
+
 -- what is left is told by the bytes that were there
 pub drop-there : (n : ℕ) (l : List ℕ) → drop n l ≡ drop (length (take n l)) l
 drop-there zero l = refl
@@ -81,6 +98,10 @@ part-length s at e l m = let a = length-take (e - at) (drop at s) in let d = len
 
 pub part-first : (s : List ℕ) (at e : ℕ) → at < length s → at < e → part at e s ≡ getD s at 0 ∷ part (at + 1) e s
 part-first s at e h l = let k : e - at ≡ suc (e - (at + 1)) = omega arith in rw (k, drop-next s at h)
+
+-- a part from the front on
+pub part-front : (n : ℕ) (l : List ℕ) → part 0 n l ≡ take n l
+part-front n l = let z : n - 0 ≡ n = omega arith in rw z
 
 -- a part that ends where it starts, or before
 pub part-none : (s : List ℕ) (a e : ℕ) → e ≤ a → part a e s ≡ []

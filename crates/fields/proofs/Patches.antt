@@ -3,12 +3,12 @@
 -- Assumes nothing.
 use mathlib.Core.Path.{_≡_, refl, sym, ap, _∙_}
 use mathlib.Core.Bool.{Bool, true, false}
-use mathlib.Core.List.{List, [], _∷_, _++_, append-assoc}
+use mathlib.Core.List.{List, [], _∷_, _++_, append-assoc, append-nil}
 use Prim.Native.Nat.{ℕ, zero, suc, _+_, _-_, _*_, _/_, _%_, _^_, _≤_, _<_}
 use native.Mathlib.Nat.{pow-succ', mod-lt, mod-eq-of-lt, div-one, suc-add, zero-add}
 use native.Mathlib.Omega.{arith}
 use native.Mathlib.Numerals.{add-one}
-use lib.ListN.{length, take, drop, getD, set, length-append, length-drop, length-set}
+use lib.ListN.{length, take, drop, getD, set, length-append, length-drop, length-set, take-append-drop}
 use lib.Seq.{paste, paste-zero, paste-suc, take-all, take-length, take-append-seam, drop-append-add, drop-drop, length-take-le}
 use lib.Dec.{leb}
 use lib.Arith.{mod-mul, digits-div, digits-mod}
@@ -27,6 +27,14 @@ module _ (d : List ℕ) (at : ℕ) (t : List ℕ) where
   pub patch-over : length d < at + length t → patch d at t ≡ d
   unfolding patch
   patch-over h = rw (lt-leb (at + length t) (length d) h)
+
+-- nothing is put
+pub patch-none : (d : List ℕ) (at : ℕ) → patch d at [] ≡ d
+patch-none d at = go (leb (at + 0) (length d)) refl
+  where
+    go : (b : Bool) → leb (at + 0) (length d) ≡ b → patch d at [] ≡ d
+    go true e = let z : at + 0 ≡ at = omega arith in patch-fits d at [] (leb-true (at + 0) (length d) e) ∙ rw (z, append-nil (take at d)) (take-append-drop at d)
+    go false e = patch-over d at [] (leb-false (at + 0) (length d) e)
 
 -- ---- an answer, from the front on
 

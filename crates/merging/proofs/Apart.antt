@@ -11,12 +11,12 @@ use lib.Seq.{take-all, take-at}
 use lib.Dec.{eqb, leb}
 use borrow.Author.Tests.{eq-eqb, ne-eqb, leb-true, leb-false}
 use Rattle.fields.specs.Writing.{answered}
-use Rattle.fields.proofs.Lists.{drop-past}
+use Rattle.fields.proofs.Lists.{drop-past, front-end}
 use Rattle.fields.proofs.Filling.{Filling, filling-start, filling-room, filling-set, filling-end}
 use Rattle.names.specs.Pieces.{joined}
 use Rattle.merging.specs.Columns.{flagged, unflagged, closed, cut, regrouped}
 use Rattle.merging.specs.Told.{kindsOf, ofKind}
-use Rattle.merging.proofs.Parts.{first-next, first-end, first-past}
+use Rattle.merging.proofs.Parts.{first-next, first-past}
 
 -- ---- the kind of the next read
 module _ (f : ℕ) (fs : List ℕ) where
@@ -101,7 +101,7 @@ module _ (flags : List ℕ) (count : ℕ) (old : List ℕ) where
         ap (take count) (filling-end file old out i f) ∙ taken-whole file old count (omega arith)
 
     pub telling-end : count ≤ i → take count out ≡ kindsOf false (take count flags)
-    telling-end h = telling-whole (first-end flags count i h)
+    telling-end h = telling-whole (front-end flags count i h)
 
     pub telling-past : 256 ≤ i → take count out ≡ kindsOf false (take count flags)
     telling-past h = let w = k .wide in telling-whole (first-past flags count i (omega arith))

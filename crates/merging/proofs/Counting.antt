@@ -6,6 +6,7 @@ use mathlib.Core.Bool.{Bool, true, false}
 use mathlib.Core.List.{List, [], _∷_}
 use native.Mathlib.Omega.{arith}
 use lib.ListN.{length, take, drop, getD}
+use Rattle.fields.proofs.Lists.{front-end}
 use Rattle.sizes.specs.Sizes.{Size}
 use Rattle.packing.specs.declared.Cost.{Cost}
 use Rattle.packing.specs.declared.Fill.{Fill}
@@ -13,7 +14,7 @@ use Rattle.packing.specs.Told.{started, stepOf, stepsOf}
 use Rattle.packing.specs.Tables.{sizesOf}
 use Rattle.packing.proofs.Sizing.{sizeAt, sizes-next}
 use Rattle.merging.specs.Columns.{closed}
-use Rattle.merging.proofs.Parts.{first-next, first-end, first-past}
+use Rattle.merging.proofs.Parts.{first-next, first-past}
 use Rattle.merging.proofs.Closing.{closing, closing-none, closing-other, closing-later, closing-first}
 
 -- the reads before `i` are counted, `z` standing for the flagged ones; what is left counts the whole
@@ -68,7 +69,7 @@ module _ (c : Cost) (b : ℕ) (z : Size) (flags : List ℕ) (count : ℕ) (qs ps
         ap (λ g. g .packets) (ap (stepsOf c b f) (sym t) ∙ k .left)
 
     pub counting-end : count ≤ i → f .packets ≡ stepsOf c b (started b) (closed (take count flags) z (sizesOf qs ps)) .packets
-    counting-end h = counting-whole (first-end flags count i h)
+    counting-end h = counting-whole (front-end flags count i h)
 
     pub counting-past : 256 ≤ i → f .packets ≡ stepsOf c b (started b) (closed (take count flags) z (sizesOf qs ps)) .packets
     counting-past h = let w = k .wide in counting-whole (first-past flags count i (omega arith))

@@ -9,11 +9,13 @@ use lib.ListN.{length, take, drop, getD, set, length-map, length-take}
 use lib.Seq.{drop-drop}
 use Rattle.fields.specs.Writing.{answered}
 use Rattle.fields.proofs.Filling.{Filling, filling-start, filling-room, filling-set, filling-end}
+use Rattle.fields.proofs.Lists.{front-end}
 use Rattle.catalog.specs.Finding.{every}
 use Rattle.planner.specs.Lists.{sum}
 use Rattle.planner.specs.Serving.{once}
-use Rattle.merging.specs.Columns.{cut, readsIn, isSet, flagsOf}
-use Rattle.merging.proofs.Parts.{first-next, first-end, first-past}
+use Rattle.planner.specs.Rows.{isSet}
+use Rattle.merging.specs.Columns.{cut, readsIn, flagsOf}
+use Rattle.merging.proofs.Parts.{first-next, first-past}
 
 pub length-cut : (ns ms : List ℕ) → length (cut ns ms) ≡ length ns
 unfolding cut
@@ -39,7 +41,7 @@ module _ (members lens : List ℕ) (count : ℕ) where
 
     pub reads-end : count ≤ i → readsFrom i p ≡ []
     unfolding readsFrom cut
-    reads-end h = ap (λ x. cut x (drop p members)) (first-end lens count i h)
+    reads-end h = ap (λ x. cut x (drop p members)) (front-end lens count i h)
 
     pub reads-past : length lens ≤ i → readsFrom i p ≡ []
     unfolding readsFrom cut

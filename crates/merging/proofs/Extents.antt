@@ -7,12 +7,13 @@ use mathlib.Core.List.{List, [], _∷_, _++_, map, map-append}
 use native.Mathlib.Omega.{arith}
 use lib.ListN.{length, take, drop, getD}
 use borrow.Author.Tests.{lt-ltb, le-ltb}
+use Rattle.fields.proofs.Lists.{front-end}
 use Rattle.names.specs.Pieces.{joined}
 use Rattle.planner.specs.Lists.{least, greatest}
 use Rattle.merging.specs.declared.cover.Extent.{Extent}
 use Rattle.merging.specs.Columns.{flagged, readsIn}
 use Rattle.merging.specs.Told.{only, wider, widened}
-use Rattle.merging.proofs.Parts.{first-next, first-end, first-past, some-none, some-next, some-past}
+use Rattle.merging.proofs.Parts.{first-next, first-past, some-none, some-next, some-past}
 use Rattle.merging.proofs.Flags.{flagged-yes, flagged-not, flagged-none}
 use Rattle.merging.proofs.Covering.{readsFrom, reads-all, reads-next}
 
@@ -123,7 +124,7 @@ module _ (f : ℕ → ℕ) (members lens flags : List ℕ) (count : ℕ) (e : Ex
         sym (ap (over f x) (ap (λ fs. flagged fs rs) o ∙ flagged-none rs) ∙ over-none f x) ∙ k .left
 
     pub extending-end : count ≤ i → x ≡ widened e (map f (joined (flagged (take count flags) (readsIn members lens count))))
-    extending-end h = extending-whole (first-end flags count i h)
+    extending-end h = extending-whole (front-end flags count i h)
 
     pub extending-past : 256 ≤ i → x ≡ widened e (map f (joined (flagged (take count flags) (readsIn members lens count))))
     extending-past h = let w = k .wide in extending-whole (first-past flags count i (omega arith))

@@ -7,10 +7,10 @@ use native.Mathlib.Nat.{mul-le-mul-right}
 use native.Mathlib.Omega.{arith}
 use lib.ListN.{length, take, drop, getD}
 use borrow.Author.Tests.{eq-eqb, ne-eqb}
-use Rattle.fields.proofs.Lists.{drop-next}
+use Rattle.fields.proofs.Lists.{drop-next, front-end}
 use Rattle.planner.specs.Lists.{sum}
 use Rattle.merging.specs.Columns.{flagged}
-use Rattle.merging.proofs.Parts.{first-next, first-end, first-past}
+use Rattle.merging.proofs.Parts.{first-next, first-past}
 
 -- ---- the first read left: its flag and what stands in a column
 module _ {A : Type 0} (f : ℕ) (fs : List ℕ) (x : A) (xs : List A) where
@@ -101,7 +101,7 @@ module _ (g : ℕ → ℕ) (most : ℕ) (flags : List ℕ) (count : ℕ) (xs : L
     adding-few = let b = a .few in let l = mul-le-mul-right most (a .within) in omega arith
 
     pub adding-end : count ≤ i → (n ≡ sum (map g (flagged (take count flags) xs))) × (n ≤ 256 * most)
-    adding-end h = (adding-whole (first-end flags count i h), adding-few)
+    adding-end h = (adding-whole (front-end flags count i h), adding-few)
 
     pub adding-past : 256 ≤ i → (n ≡ sum (map g (flagged (take count flags) xs))) × (n ≤ 256 * most)
     adding-past h = let w = a .wide in (adding-whole (first-past flags count i (omega arith)), adding-few)

@@ -9,10 +9,11 @@ use lib.ListN.{length, take, drop, getD, set, length-append}
 use lib.Seq.{length-take-le}
 use Rattle.fields.specs.Writing.{patch, answered}
 use Rattle.fields.proofs.Filling.{Filling, filling-start, filling-room, filling-next, filling-set, filling-end, placing-start, placing-end}
+use Rattle.fields.proofs.Lists.{front-end}
 use Rattle.names.specs.Pieces.{joined}
 use Rattle.merging.specs.Columns.{readsIn, regrouped}
 use Rattle.merging.specs.Told.{kindsOf, ofKind}
-use Rattle.merging.proofs.Parts.{first-next, first-end, first-past, some-none, some-next, some-past}
+use Rattle.merging.proofs.Parts.{first-next, first-past, some-none, some-next, some-past}
 use Rattle.merging.proofs.Covering.{readsFrom, reads-all, reads-next}
 use Rattle.merging.proofs.Apart.{kind-yes, kind-not, kind-none, kindRow, regrouped-kinds, regrouped-few}
 
@@ -151,7 +152,7 @@ module _ (kind : ℕ) (members lens kinds : List ℕ) (count : ℕ) (old : List 
 
     pub gathering-end : count ≤ i
         → (q ≡ to + length (joined (ofKind kind (take count kinds) (readsIn members lens count)))) × (out ≡ patch old to (joined (ofKind kind (take count kinds) (readsIn members lens count))))
-    gathering-end h = gathering-whole (first-end kinds count i h)
+    gathering-end h = gathering-whole (front-end kinds count i h)
 
     pub gathering-past : 256 ≤ i
         → (q ≡ to + length (joined (ofKind kind (take count kinds) (readsIn members lens count)))) × (out ≡ patch old to (joined (ofKind kind (take count kinds) (readsIn members lens count))))

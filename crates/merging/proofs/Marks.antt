@@ -13,7 +13,8 @@ use Rattle.fields.proofs.Lists.{part-first}
 use Rattle.catalog.specs.Finding.{any, every}
 use Rattle.planner.specs.Lists.{isOneOf}
 use Rattle.planner.specs.Serving.{once}
-use Rattle.merging.specs.Columns.{listed, marksOf, isSet}
+use Rattle.planner.specs.Rows.{isSet}
+use Rattle.merging.specs.Columns.{listed, marksOf}
 use Rattle.merging.proofs.Parts.{some-none, some-next, some-past}
 
 -- ---- listed values

@@ -28,8 +28,5 @@ module _ (l : List ℕ) (n i : ℕ) where
       let t = length-take n l in
       drop-next (take n l) i (omega arith) ∙ ap (λ x. x ∷ drop (i + 1) (take n l)) (getD-take n l i 0 h)
 
-  pub first-end : n ≤ i → drop i (take n l) ≡ []
-  first-end h = let t = length-take n l in drop-past (take n l) i (omega arith)
-
   pub first-past : length l ≤ i → drop i (take n l) ≡ []
   first-past h = let t = length-take n l in drop-past (take n l) i (omega arith)

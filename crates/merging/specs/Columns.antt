@@ -2,14 +2,15 @@
 -- covers, and a column with the flagged reads as one.
 -- Assumes nothing: these are definitions.
 use Prim.Native.Nat.{ℕ, zero, suc, _+_}
-use mathlib.Core.Bool.{Bool, cond}
+use mathlib.Core.Bool.{cond}
 use mathlib.Core.List.{List, [], _∷_, map}
 use lib.Dec.{eqb}
-use lib.ListN.{take, drop, getD}
+use lib.ListN.{take, drop}
 use Rattle.names.specs.Pieces.{joined}
 use Rattle.catalog.specs.Finding.{every}
 use Rattle.planner.specs.Lists.{isOneOf}
 use Rattle.planner.specs.Serving.{once}
+use Rattle.planner.specs.Rows.{isSet}
 
 -- the values of a function at `i`, `i + 1` and so on, `n` of them
 unfoldable pub listed : {A : Type 0} → (ℕ → A) → ℕ → ℕ → List A
@@ -24,10 +25,6 @@ cut (n ∷ ns) ms = take n ms ∷ cut ns (drop n ms)
 -- 256 marks, of which those at these positions are 1 and the others 0
 unfoldable pub marksOf : List ℕ → List ℕ
 marksOf ps = listed (λ p. once (isOneOf ps p)) 0 256
-
--- whether the mark or flag at a position is set
-unfoldable pub isSet : List ℕ → ℕ → Bool
-isSet marks p = eqb (getD marks p 0) 1
 
 -- a flag for each read: 1 where all its positions are marked
 unfoldable pub flagsOf : List ℕ → List (List ℕ) → List ℕ

@@ -16,7 +16,8 @@ ghost use Rattle.catalog.specs.Finding.{every};
 ghost use Rattle.packing.specs.Tables.{sizesOf};
 ghost use Rattle.packing.specs.Told.{started, stepsOf};
 ghost use Rattle.planner.specs.Lists.{sum, least, greatest};
-ghost use Rattle.merging.specs.Columns.{marksOf, isSet, flagsOf, flagged, closed, largestSize, readsIn};
+ghost use Rattle.planner.specs.Rows.{isSet};
+ghost use Rattle.merging.specs.Columns.{marksOf, flagsOf, flagged, closed, largestSize, readsIn};
 ghost use Rattle.merging.specs.Told.{wider, widened};
 
 // The least and the greatest of several numbers.

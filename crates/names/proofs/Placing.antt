@@ -19,6 +19,7 @@ use Rattle.fields.proofs.Decimals.{missing-is, value-is, numeral-fits}
 use Rattle.fields.proofs.Spelled.{length-digits}
 use Rattle.fields.proofs.Patches.{length-patch}
 use Rattle.fields.proofs.Filling.{filling-byte, filling-number, Filling, filling-start, filling-room, filling-next, filling-end, placing-start, placing-end}
+use Rattle.fields.proofs.Options.{some-is}
 use Rattle.names.specs.Pieces.{isNot}
 use Rattle.names.specs.Name.{member, Token, Reading, tokens, stops, indexesOf, laterToken, before, readName, bracket}
 use Rattle.names.specs.Steps.{indexesIn, stepAt, readFrom}
@@ -86,9 +87,6 @@ putting-start t old at r =
       filling = placing-start old at (layIndexes (r .indexes)) (omega arith);
     }
 
-some-is : {A : Type 0} (a b : A) → some a ≡ some b → a ≡ b
-some-is a b e = cc
-
 module _ (t old out : List ℕ) (at to i e : ℕ) (p : Putting t old out at to i) (q : e ≡ scan (isNot 44) (drop i t) i) where
   pub putting-missing : numberTold (numeralOf (part i e t)) ≡ Missing → ⊥
   putting-missing m =
@@ -99,7 +97,7 @@ module _ (t old out : List ℕ) (at to i e : ℕ) (p : Putting t old out at to i
   unfolding layIndexes listedIndexes
   putting-last v out′ h m g =
       let n = value-is (numeralOf (part i e t)) v m in
-      let r : v ∷ [] ≡ p .rest = some-is (v ∷ []) (p .rest) (sym (last-index t i e (p .within) q v h n) ∙ p .left) in
+      let r : v ∷ [] ≡ p .rest = some-is (sym (last-index t i e (p .within) q v h n) ∙ p .left) in
       let f : Filling (take at old ++ layIndexes (p .all)) old out to (digits 8 v ++ []) = subst (λ x. Filling (take at old ++ layIndexes (p .all)) old out to (layIndexes x)) (sym r) (p .filling) in
       let d = filling-number (take at old ++ layIndexes (p .all)) old out out′ to 8 v [] (numeral-fits (part i e t) v n) f g in
       placing-end old out′ at (layIndexes (p .all)) (to + 8) (p .room) d ∙ ap (λ x. patch old at (layIndexes (listedIndexes x))) (sym (p .read))
@@ -114,7 +112,7 @@ module _ (t old out : List ℕ) (at to i e : ℕ) (p : Putting t old out at to i
       go : (o : Option (List ℕ)) → indexesFrom t (e + 1) ≡ o → andThen o (λ is. some (v ∷ is)) ≡ some (p .rest) → Putting t old out′ at (to + 8) (e + 1)
       go none w z = let y : _≡_ {A = ℕ} 0 1 = cc in absurd (omega arith)
       go (some is) w z =
-          let r : v ∷ is ≡ p .rest = some-is (v ∷ is) (p .rest) z in
+          let r : v ∷ is ≡ p .rest = some-is z in
           let f : Filling (take at old ++ layIndexes (p .all)) old out to (digits 8 v ++ layIndexes is) = subst (λ x. Filling (take at old ++ layIndexes (p .all)) old out to (layIndexes x)) (sym r) (p .filling) in
           record {
             all = p .all;

@@ -8,7 +8,7 @@ use native.Mathlib.Nat.{div-le-self}
 use native.Mathlib.Omega.{arith}
 use lib.ListN.{length, drop}
 use lib.Dec.{ltb}
-use borrow.Author.Tests.{le-leb, lt-leb, ltb-true, ltb-false}
+use borrow.Author.Tests.{lt-leb, ltb-true, ltb-false}
 use Rattle.fields.specs.Format.{Verdict, fine, bad, All}
 use Rattle.fields.specs.Places.{told}
 use Rattle.fields.specs.declared.Refusal.{Refusal}
@@ -21,7 +21,8 @@ use Rattle.packing.specs.declared.Counted.the-variants.{Refused as NotCo
 use Rattle.packing.specs.Packing.{empty, plus, fits, goesAlone, room, lonePackets, closed, sharedFrom, shared, loneSum, packets}
 use Rattle.packing.specs.Tables.{sizesOf, largestEntry, tablesVerdict}
 use Rattle.packing.specs.Told.{largest, held, fill, started, stepOf, stepsOf, countedOf}
-use Rattle.packing.proofs.Steps.{not-alone, ceiling-rest, ceiling-whole, step-alone, step-joins, step-opens}
+use Rattle.packing.proofs.Steps.{ceiling-rest, ceiling-whole, step-alone, step-joins, step-opens}
+use Rattle.packing.proofs.Fitting.{shared-opens}
 use Rattle.packing.proofs.Checking.{Small, Tables, tables-fine, told-fine}
 use Rattle.packing.proofs.Sizing.{sizeAt, sizes-few, sizes-next, sizes-past-requests, sizes-past-replies}
 
@@ -43,10 +44,6 @@ Full b a = (z : Size) → fits b (plus a z) ≡ false
 pub started-full : (b : ℕ) → Full b (held (started b))
 unfolding fits plus held started
 started-full b z = rw (lt-leb (b + 1 + z .request) b (omega arith))
-
-pub opened-fits : (c : Cost) (b : ℕ) (z : Size) → goesAlone c b z ≡ false → fits b (plus (empty c) z) ≡ true
-unfolding fits plus
-opened-fits c b z a = let w = not-alone c b z a in rw (le-leb (empty c .request + z .request) b (w .0), le-leb (empty c .reply + z .reply) b (w .1))
 
 -- how a read changes the group being filled: it leaves it, joins it, or opens another
 pub data Way (c : Cost) (b : ℕ) (a z : Size) : Type 0 where
@@ -88,7 +85,7 @@ module _ (c : Cost) (b : ℕ) where
     where
       go : (x : Bool) → goesAlone c b z ≡ x → length (sharedFrom c b (k + 1) [] (empty c) zs) ≡ opened c b a zs → length (sharedFrom c b k [] (empty c) (z ∷ zs)) ≡ opened c b a (z ∷ zs)
       go true e h = rw e h
-      go false e h = rw (e, opened-fits c b z e, n z) (shared-filling (k + 1) k [] (plus (empty c) z) zs)
+      go false e h = rw (e, shared-opens c b z e, n z) (shared-filling (k + 1) k [] (plus (empty c) z) zs)
 
 -- ---- packets counted by steps
 
@@ -96,6 +93,17 @@ module _ (c : Cost) (b : ℕ) where
   -- the packets that reads add to those counted
   unfoldable pub added : Size → List Size → ℕ
   added a zs = opened c b a zs + loneSum c b zs
+
+  -- read by read: one goes alone, joins the packet being filled, or opens one
+  pub added-step : (a z : Size) (zs : List Size)
+      → added a (z ∷ zs) ≡ cond (goesAlone c b z) (lonePackets c b z + added a zs) (cond (fits b (plus a z)) (added (plus a z) zs) (1 + added (plus (empty c) z) zs))
+  unfolding added opened loneSum
+  added-step a z zs = go (way c b a z)
+    where
+      go : Way c b a z → added a (z ∷ zs) ≡ cond (goesAlone c b z) (lonePackets c b z + added a zs) (cond (fits b (plus a z)) (added (plus a z) zs) (1 + added (plus (empty c) z) zs))
+      go (alone e) = rw e (omega arith)
+      go (joins e f) = rw (e, f)
+      go (opens e f) = rw (e, f) (omega arith)
 
   abbrev Counts : List Size → Type 0
   Counts zs = (n : ℕ) (a : Size) → stepsOf c b (fill n a) zs .packets ≡ min largest (n + added a zs)
@@ -115,15 +123,16 @@ module _ (c : Cost) (b : ℕ) where
   counts [] n a = omega arith
   counts (z ∷ zs) n a = counts-step n a z zs (way c b a z) (counts zs)
 
-  pub packets-added : (zs : List Size) → packets c b zs ≡ added (held (started b)) zs
+  -- all packets, where none is being filled at the start
+  pub packets-added : (a : Size) (zs : List Size) → Full b a → packets c b zs ≡ added a zs
   unfolding packets shared added
-  packets-added zs = ap (λ n. n + loneSum c b zs) (shared-count c b 0 (held (started b)) zs (started-full b))
+  packets-added a zs n = ap (λ m. m + loneSum c b zs) (shared-count c b 0 a zs n)
 
   pub steps-packets : (zs : List Size) → stepsOf c b (started b) zs .packets ≡ min largest (packets c b zs)
   unfolding fill held started
   steps-packets zs =
       let w : stepsOf c b (started b) zs .packets ≡ min largest (0 + added (held (started b)) zs) = counts zs 0 (held (started b)) in
-      let p = packets-added zs in
+      let p = packets-added (held (started b)) zs (started-full b) in
       omega arith
 
 -- ---- few packets
@@ -168,7 +177,7 @@ module _ (c : Cost) (b : ℕ) where
   pub steps-low : (zs : List Size) → length zs ≤ 256 → Low zs → (stepsOf c b (started b) zs .packets ≡ packets c b zs) × (packets c b zs < 2 ^ 64)
   steps-low zs m l =
       let w = few zs l (held (started b)) in
-      let p = packets-added c b zs in
+      let p = packets-added c b (held (started b)) zs (started-full b) in
       let q = steps-packets c b zs in
       (omega arith, omega arith)
 

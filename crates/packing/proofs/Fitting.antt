@@ -59,12 +59,17 @@ pub fits-under : (b : ℕ) (a d : Size) → Under a d → fits b d ≡ true → 
 fits-under b a d u e = let h = fits-true b d e in let i = u .request in let j = u .reply in true-fits b a (omega arith) (omega arith)
 
 module _ (c : Cost) (b : ℕ) where
-  -- a read that does not go alone fits into a packet of its own
-  pub shared-opens : (z : Size) → goesAlone c b z ≡ false → fits b (plus (empty c) z) ≡ true
-  unfolding goesAlone plus
-  shared-opens z e =
+  -- a read that does not go alone leaves its packet within the budget
+  pub not-alone : (z : Size) → goesAlone c b z ≡ false → (empty c .request + z .request ≤ b) × (empty c .reply + z .reply ≤ b)
+  unfolding goesAlone
+  not-alone z e =
       let h = either-false (ltb b (empty c .request + z .request)) (ltb b (empty c .reply + z .reply)) e in
-      true-fits b (plus (empty c) z) (ltb-false b (empty c .request + z .request) (h .0)) (ltb-false b (empty c .reply + z .reply) (h .1))
+      (ltb-false b (empty c .request + z .request) (h .0), ltb-false b (empty c .reply + z .reply) (h .1))
+
+  -- so it fits into a packet of its own
+  pub shared-opens : (z : Size) → goesAlone c b z ≡ false → fits b (plus (empty c) z) ≡ true
+  unfolding plus
+  shared-opens z e = let w = not-alone z e in true-fits b (plus (empty c) z) (w .0) (w .1)
 
   -- and one that fits does not go alone
   pub opens-shared : (z : Size) → fits b (plus (empty c) z) ≡ true → goesAlone c b z ≡ false

@@ -14,7 +14,8 @@ use Rattle.sizes.specs.Sizes.{Size}
 use Rattle.packing.specs.declared.Cost.{Cost}
 use Rattle.packing.specs.Packing.{empty, plus, fits, goesAlone, closed, sharedFrom, shared, lonesFrom, groups, packets, packed, groupsFile}
 use Rattle.packing.specs.Told.{held, started, joining, sharedBytes, loneBytes}
-use Rattle.packing.proofs.Counting.{opened, Way, alone, joins, opens, way, Full, opened-fits, started-full, shared-count}
+use Rattle.packing.proofs.Fitting.{shared-opens}
+use Rattle.packing.proofs.Counting.{opened, Way, alone, joins, opens, way, Full, started-full, shared-count}
 use Rattle.packing.proofs.Grouping.{opened-alone, opened-joins, opened-opens, lones-alone, lones-other}
 
 -- a position of a read
@@ -133,7 +134,7 @@ module _ (c : Cost) (b : ℕ) where
           let a′ = plus (empty c) z in
           let s = sharedBytes c b (k + 1) a′ zs in
           let m : 1 + joining c b a′ zs ≡ suc (joining c b a′ zs) = omega arith in
-          rw (e, opened-fits c b z e, n z)
+          rw (e, shared-opens c b z e, n z)
           (laid (k + 1) k [] a′ zs ∙ ap (λ x. digits 2 x ++ (manyLay position (k ∷ []) ++ s)) m ∙ ap (λ r. digits 2 (suc (joining c b a′ zs)) ++ (r ++ s)) (positions-one k))
 
   -- ---- lone reads

@@ -11,6 +11,5 @@ pub mod Holding
 pub mod Budgets
 pub mod Totals
 pub mod Fitting
-pub mod Running
 pub mod Growing
 pub mod Examples

@@ -5,11 +5,10 @@ use mathlib.Core.Bool.{true, false}
 use mathlib.Core.List.{List, [], _∷_, _++_}
 use Prim.Native.Nat.{ℕ, suc, _+_, _%_, _^_, _≤_, _<_}
 use native.Mathlib.Omega.{arith}
-use lib.ListN.{length, take, drop, length-append}
-use lib.Seq.{length-take-le}
+use lib.ListN.{length, drop}
 use Rattle.fields.specs.Fields.{digits}
 use Rattle.fields.specs.Writing.{patch}
-use Rattle.fields.proofs.Filling.{Filling, filling-room, filling-number, placing-start, placing-end}
+use Rattle.fields.proofs.Putting.{Putting, putting-start, putting-same, putting-room, putting-two, putting-end}
 use Rattle.sizes.specs.Sizes.{Size}
 use Rattle.packing.specs.declared.Cost.{Cost}
 use Rattle.packing.specs.declared.Fill.{Fill}
@@ -22,40 +21,9 @@ use Rattle.packing.proofs.Laying.{bytes-alone, bytes-joins, bytes-opens
 
 -- ---- a piece put at a place
 
--- `rest` is left to put of `all`, which is put at `at` over `old`
-pub record Putting (all old : List ℕ) (at : ℕ) (out : List ℕ) (p : ℕ) (rest : List ℕ) : Type 0 where
-  pub room : at + length all ≤ length old
-  pub fills : Filling (take at old ++ all) old out p rest
-
-module _ (all old : List ℕ) (at : ℕ) where
-  putting-start : at + length all ≤ length old → Putting all old at old at all
-  putting-start h = record { room = h; fills = placing-start old at all h }
-
-  module _ (out : List ℕ) (p : ℕ) where
-    -- the same bytes are left
-    putting-same : (rest rest′ : List ℕ) → rest ≡ rest′ → Putting all old at out p rest → Putting all old at out p rest′
-    putting-same rest rest′ e f = subst (λ r. Putting all old at out p r) e f
-
-    putting-size : (rest : List ℕ) → Putting all old at out p rest → length out ≡ length old
-    putting-size rest f = filling-room (take at old ++ all) old out p rest (f .fills) .2
-
-    -- a number of two bytes is put
-    putting-two : (v : ℕ) (rest out′ : List ℕ) → v < 65536 → Putting all old at out p (digits 2 v ++ rest) → out′ ≡ patch out p (digits 2 (v % 256 ^ 2)) → Putting all old at out′ (p + 2) rest
-    putting-two v rest out′ h f e = record { room = f .room; fills = filling-number (take at old ++ all) old out out′ p 2 v rest h (f .fills) e }
-
-    putting-room : (v : ℕ) (rest : List ℕ) → Putting all old at out p (digits 2 v ++ rest) → p + 2 + length rest ≤ length old
-    putting-room v rest f =
-        let w = filling-room (take at old ++ all) old out p (digits 2 v ++ rest) (f .fills) in
-        let l = two-more v rest in
-        omega arith
-
-    putting-end : Putting all old at out p [] → (p ≡ at + length all) × (out ≡ patch old at all)
-    putting-end f =
-        let r = f .room in
-        let w = filling-room (take at old ++ all) old out p [] (f .fills) .0 in
-        let t = length-take-le at old (omega arith) in
-        let l = length-append (take at old) all in
-        (omega arith, placing-end old out at all p r (f .fills))
+-- a number of two bytes goes into what is left
+two-room : (all old : List ℕ) (at : ℕ) (out : List ℕ) (p v : ℕ) (rest : List ℕ) → Putting all old at out p (digits 2 v ++ rest) → p + 2 + length rest ≤ length old
+two-room all old at out p v rest f = let w = putting-room all old at out p (digits 2 v ++ rest) f in let l = two-more v rest in omega arith
 
 -- ---- shared groups
 
@@ -74,7 +42,7 @@ module _ (c : Cost) (b : ℕ) (t u old : List ℕ) (at : ℕ) where
 
   module _ (out : List ℕ) (f : Fill) (p i : ℕ) (v : Sharing c b t u old at out f p i) where
     pub sharing-size : length out ≡ length old
-    sharing-size = putting-size S old at out p (sharedBytes c b i (held f) (drop i (sizesOf t u))) (v .left)
+    sharing-size = putting-room S old at out p (sharedBytes c b i (held f) (drop i (sizesOf t u))) (v .left) .1
 
     pub sharing-end : length t ≤ i → (p ≡ at + length S) × (out ≡ patch old at S)
     unfolding sharedBytes
@@ -103,7 +71,7 @@ module _ (c : Cost) (b : ℕ) (t u old : List ℕ) (at : ℕ) where
               (bytes-joins c b i (held f) z zs g j ∙ ap (λ a. digits 2 i ++ sharedBytes c b (i + 1) a zs) (sym (held-joins c b f f′ z e g j)))
 
           pub sharing-joins-room : p + 2 < 2 ^ 64
-          sharing-joins-room = let w = putting-room S old at out p i (sharedBytes c b (i + 1) (held f′) zs) joins-at in let x = v .small in omega arith
+          sharing-joins-room = let w = two-room S old at out p i (sharedBytes c b (i + 1) (held f′) zs) joins-at in let x = v .small in omega arith
 
           pub sharing-joins : (out′ : List ℕ) → out′ ≡ patch out p (digits 2 (i % 256 ^ 2)) → Sharing c b t u old at out′ f′ (p + 2) (i + 1)
           sharing-joins out′ q = record { small = v .small; left = putting-two S old at out p i (sharedBytes c b (i + 1) (held f′) zs) out′ (let w = s .1 in omega arith) joins-at q }
@@ -120,7 +88,7 @@ module _ (c : Cost) (b : ℕ) (t u old : List ℕ) (at : ℕ) where
           pub sharing-opens-room : p + 4 < 2 ^ 64
           sharing-opens-room =
               let x = v .small in
-              let w = putting-room S old at out p (n + 1) (digits 2 i ++ sharedBytes c b (i + 1) (held f′) zs) opens-at in
+              let w = two-room S old at out p (n + 1) (digits 2 i ++ sharedBytes c b (i + 1) (held f′) zs) opens-at in
               let l = two-more i (sharedBytes c b (i + 1) (held f′) zs) in
               omega arith
 
@@ -147,7 +115,7 @@ module _ (c : Cost) (b : ℕ) (t u old : List ℕ) (at : ℕ) where
 
   module _ (out : List ℕ) (p i : ℕ) (v : Lonely c b t u old at out p i) where
     pub lonely-size : length out ≡ length old
-    lonely-size = putting-size L old at out p (loneBytes c b i (drop i (sizesOf t u))) (v .left)
+    lonely-size = putting-room L old at out p (loneBytes c b i (drop i (sizesOf t u))) (v .left) .1
 
     pub lonely-end : length t ≤ i → (p ≡ at + length L) × (out ≡ patch old at L)
     unfolding loneBytes
@@ -174,7 +142,7 @@ module _ (c : Cost) (b : ℕ) (t u old : List ℕ) (at : ℕ) where
 
         pub lonely-room : p + 4 ≤ length old
         lonely-room =
-            let w = putting-room L old at out p 1 (digits 2 i ++ loneBytes c b (i + 1) ys) alone-at in
+            let w = two-room L old at out p 1 (digits 2 i ++ loneBytes c b (i + 1) ys) alone-at in
             let l = two-more i (loneBytes c b (i + 1) ys) in
             omega arith
 

@@ -9,10 +9,11 @@ use lib.Dec.{eqb, leb, ltb}
 use lib.ListN.{length}
 use lib.Seq.{append-snoc}
 use borrow.Author.Tests.{lt-ltb, le-ltb, le-leb, lt-leb, eqb-true, eqb-false, leb-true, leb-false, ltb-true, ltb-false}
+use Rattle.names.specs.Pieces.{joined}
 use Rattle.sizes.specs.Sizes.{Size}
 use Rattle.packing.specs.declared.Cost.{Cost}
 use Rattle.packing.specs.Packing.{empty, plus, fits, goesAlone, closed, sharedFrom, shared, lonesFrom, groups}
-use Rattle.packing.specs.Facts.{flat, times, rises}
+use Rattle.packing.specs.Facts.{times, rises}
 
 -- ---- positions of the reads that pass a test
 -- from position `k` on
@@ -35,26 +36,26 @@ places-rise p i k (z ∷ zs) h = go (p z) (places-rise p i (k + 1) zs (omega ari
     go false f g = f
 
 -- ---- groups in a row
-pub flat-append : (xs ys : List (List ℕ)) → flat (xs ++ ys) ≡ flat xs ++ flat ys
-unfolding flat
+pub flat-append : (xs ys : List (List ℕ)) → joined (xs ++ ys) ≡ joined xs ++ joined ys
+unfolding joined
 flat-append [] ys = refl
-flat-append (g ∷ xs) ys = ap (λ l. g ++ l) (flat-append xs ys) ∙ sym (append-assoc g (flat xs) (flat ys))
+flat-append (g ∷ xs) ys = ap (λ l. g ++ l) (flat-append xs ys) ∙ sym (append-assoc g (joined xs) (joined ys))
 
-flat-closed : (g : List ℕ) → flat (closed g) ≡ g
-unfolding flat closed
+flat-closed : (g : List ℕ) → joined (closed g) ≡ g
+unfolding joined closed
 flat-closed [] = refl
 flat-closed (k ∷ g) = append-nil (k ∷ g)
 
 -- a read is skipped, joins the group being filled, or opens one
-flat-step : (g l : List ℕ) (k : ℕ) (s j o : List (List ℕ)) (x y : Bool) → flat s ≡ g ++ l → flat j ≡ (g ++ (k ∷ [])) ++ l → flat o ≡ k ∷ l
-    → flat (cond x s (cond y j (closed g ++ o))) ≡ g ++ cond (not x) (k ∷ l) l
+flat-step : (g l : List ℕ) (k : ℕ) (s j o : List (List ℕ)) (x y : Bool) → joined s ≡ g ++ l → joined j ≡ (g ++ (k ∷ [])) ++ l → joined o ≡ k ∷ l
+    → joined (cond x s (cond y j (closed g ++ o))) ≡ g ++ cond (not x) (k ∷ l) l
 flat-step g l k s j o true y a b d = a
 flat-step g l k s j o false true a b d = b ∙ append-snoc g k l
 flat-step g l k s j o false false a b d = flat-append (closed g) o ∙ ap₂ (λ m n. m ++ n) (flat-closed g) d
 
 module _ (c : Cost) (b : ℕ) where
   -- the group being filled, then the reads left that share packets
-  pub shared-places : (k : ℕ) (g : List ℕ) (a : Size) (zs : List Size) → flat (sharedFrom c b k g a zs) ≡ g ++ places (shares c b) k zs
+  pub shared-places : (k : ℕ) (g : List ℕ) (a : Size) (zs : List Size) → joined (sharedFrom c b k g a zs) ≡ g ++ places (shares c b) k zs
   unfolding sharedFrom places
   shared-places k g a [] = flat-closed g ∙ sym (append-nil g)
   shared-places k g a (z ∷ zs) =
@@ -71,23 +72,23 @@ module _ (c : Cost) (b : ℕ) where
       (shared-places (k + 1) (g ++ (k ∷ [])) (plus a z) zs)
       (shared-places (k + 1) (k ∷ []) (plus (empty c) z) zs)
 
-  pub lone-places : (k : ℕ) (zs : List Size) → flat (lonesFrom c b k zs) ≡ places (goesAlone c b) k zs
-  unfolding lonesFrom places flat
+  pub lone-places : (k : ℕ) (zs : List Size) → joined (lonesFrom c b k zs) ≡ places (goesAlone c b) k zs
+  unfolding lonesFrom places joined
   lone-places k [] = refl
   lone-places k (z ∷ zs) = go (goesAlone c b z) (lone-places (k + 1) zs)
     where
-      go : (x : Bool) → flat (lonesFrom c b (k + 1) zs) ≡ places (goesAlone c b) (k + 1) zs
-          → flat (cond x ((k ∷ []) ∷ lonesFrom c b (k + 1) zs) (lonesFrom c b (k + 1) zs)) ≡ cond x (k ∷ places (goesAlone c b) (k + 1) zs) (places (goesAlone c b) (k + 1) zs)
+      go : (x : Bool) → joined (lonesFrom c b (k + 1) zs) ≡ places (goesAlone c b) (k + 1) zs
+          → joined (cond x ((k ∷ []) ∷ lonesFrom c b (k + 1) zs) (lonesFrom c b (k + 1) zs)) ≡ cond x (k ∷ places (goesAlone c b) (k + 1) zs) (places (goesAlone c b) (k + 1) zs)
       go true h = ap (λ l. k ∷ l) h
       go false h = h
 
   -- shared groups are in order, the reads within them too
-  pub shared-rise : (zs : List Size) → rises 0 (flat (shared c b zs)) ≡ true
+  pub shared-rise : (zs : List Size) → rises 0 (joined (shared c b zs)) ≡ true
   unfolding shared
   shared-rise zs = ap (rises 0) (shared-places 0 [] (empty c) zs) ∙ places-rise (shares c b) 0 0 zs (omega arith)
 
   -- lone reads are in order
-  pub lone-rise : (zs : List Size) → rises 0 (flat (lonesFrom c b 0 zs)) ≡ true
+  pub lone-rise : (zs : List Size) → rises 0 (joined (lonesFrom c b 0 zs)) ≡ true
   lone-rise zs = ap (rises 0) (lone-places 0 zs) ∙ places-rise (goesAlone c b) 0 0 zs (omega arith)
 
 -- ---- how often a position stands there
@@ -150,11 +151,11 @@ places-once p k i (z ∷ zs) = two (p z) (eqb k i) (places (λ z. not (p z)) (i 
     two false false l m e = rw e (omega arith)
 
 -- every read is in exactly one group, and no other position in any
-pub each-once : (c : Cost) (b : ℕ) (zs : List Size) (k : ℕ) → times k (flat (groups c b zs)) ≡ cond (ltb k (length zs)) 1 0
+pub each-once : (c : Cost) (b : ℕ) (zs : List Size) (k : ℕ) → times k (joined (groups c b zs)) ≡ cond (ltb k (length zs)) 1 0
 unfolding groups shared
 each-once c b zs k =
     ap (times k) (flat-append (shared c b zs) (lonesFrom c b 0 zs))
-    ∙ times-append k (flat (shared c b zs)) (flat (lonesFrom c b 0 zs))
+    ∙ times-append k (joined (shared c b zs)) (joined (lonesFrom c b 0 zs))
     ∙ ap₂ (λ m n. times k m + times k n) (shared-places c b 0 [] (empty c) zs) (lone-places c b 0 zs)
     ∙ places-once (goesAlone c b) k 0 zs
     ∙ last

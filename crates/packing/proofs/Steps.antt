@@ -1,18 +1,18 @@
 -- One read at a time: the tests against the budget, the packets of a read that goes alone, and one step of the count.
 -- Assumes nothing.
 use mathlib.Core.Path.{_≡_, refl, sym, ap, _∙_}
-use mathlib.Core.Bool.{Bool, true, false, _||_, false≢true}
+use mathlib.Core.Bool.{Bool, true, false}
 use Prim.Native.Nat.{ℕ, _+_, _-_, _*_, _/_, _%_, _^_, _≤_, _<_, min, max}
 use native.Mathlib.Nat.{add-mul, mod-lt, div-add-mod', div-eq-of-lt-le}
 use native.Mathlib.Omega.{arith}
-use lib.Dec.{ltb, leb}
-use borrow.Author.Tests.{lt-ltb, le-ltb, le-leb, lt-leb, ltb-true, ltb-false, leb-true}
-use Rattle.fields.proofs.Lists.{and-left, and-right}
+use lib.Dec.{ltb}
+use borrow.Author.Tests.{lt-ltb, le-ltb, le-leb, lt-leb, ltb-true, ltb-false}
 use Rattle.sizes.specs.Sizes.{Size}
 use Rattle.packing.specs.declared.Cost.{Cost}
 use Rattle.packing.specs.declared.Fill.{Fill}
 use Rattle.packing.specs.Packing.{empty, plus, fits, goesAlone, room, lonePackets}
 use Rattle.packing.specs.Told.{largest, held, fill, started, stepOf}
+use Rattle.packing.proofs.Fitting.{fits-true}
 
 -- ---- over the budget
 
@@ -26,14 +26,6 @@ over-more b h m l = go (ltb (b - h) m) refl
     go true e = let w = ltb-true (b - h) m e in sym (lt-ltb b (h + m) (omega arith))
     go false e = let w = ltb-false (b - h) m e in sym (le-ltb b (h + m) (omega arith))
 
-or-left : (x y : Bool) → (x || y) ≡ false → x ≡ false
-or-left true y e = e
-or-left false y e = refl
-
-or-right : (x y : Bool) → (x || y) ≡ false → y ≡ false
-or-right true y e = absurd (false≢true (sym e))
-or-right false y e = e
-
 module _ (c : Cost) (b : ℕ) where
   module _ (t u h : ℕ) (e : h ≡ empty c .request) where
     pub alone-request : ltb b (h + t) ≡ true → true ≡ goesAlone c b (record { request = t; reply = u })
@@ -43,14 +35,6 @@ module _ (c : Cost) (b : ℕ) where
     pub alone-reply : (k : ℕ) (r : Bool) → ltb b (h + t) ≡ false → k ≡ empty c .reply → r ≡ ltb b (k + u) → r ≡ goesAlone c b (record { request = t; reply = u })
     unfolding goesAlone
     alone-reply k r o f q = let w : ltb b (empty c .request + t) ≡ false = rw (← e) o in rw (w, ← f) q
-
-  -- a read that does not go alone fits into a packet of its own
-  pub not-alone : (z : Size) → goesAlone c b z ≡ false → (empty c .request + z .request ≤ b) × (empty c .reply + z .reply ≤ b)
-  unfolding goesAlone
-  not-alone z e = (
-    ltb-false b (empty c .request + z .request) (or-left (ltb b (empty c .request + z .request)) (ltb b (empty c .reply + z .reply)) e),
-    ltb-false b (empty c .reply + z .reply) (or-right (ltb b (empty c .request + z .request)) (ltb b (empty c .reply + z .reply)) e),
-  )
 
 module _ (f : Fill) (b t u : ℕ) where
   pub joins-request : ltb b (f .request + t) ≡ true → false ≡ fits b (plus (held f) (record { request = t; reply = u }))
@@ -65,14 +49,9 @@ module _ (f : Fill) (b t u : ℕ) where
   unfolding fits plus held
   joins-both o p = let w = ltb-false b (f .request + t) o in let v = ltb-false b (f .reply + u) p in rw (le-leb (f .request + t) b w, le-leb (f .reply + u) b v)
 
-pub fits-inside : (b : ℕ) (a : Size) → fits b a ≡ true → (a .request ≤ b) × (a .reply ≤ b)
-unfolding fits
-fits-inside b a e =
-    (leb-true (a .request) b (and-left (leb (a .request) b) (leb (a .reply) b) e), leb-true (a .reply) b (and-right (leb (a .request) b) (leb (a .reply) b) e))
-
 pub fits-sum : (b : ℕ) (f : Fill) (z : Size) → fits b (plus (held f) z) ≡ true → (f .request + z .request ≤ b) × (f .reply + z .reply ≤ b)
 unfolding plus held
-fits-sum b f z e = fits-inside b (plus (held f) z) e
+fits-sum b f z e = fits-true b (plus (held f) z) e
 
 -- ---- a read that goes alone
 

@@ -2,16 +2,11 @@
 -- Assumes nothing: these are definitions.
 use Prim.Native.Nat.{ℕ, zero, suc, _+_, _≤_}
 use mathlib.Core.Bool.{Bool, true, false, cond}
-use mathlib.Core.List.{List, [], _∷_, _++_}
+use mathlib.Core.List.{List, [], _∷_}
 use lib.Dec.{eqb, leb}
 use Rattle.sizes.specs.Sizes.{Size}
 use Rattle.packing.specs.declared.Cost.{Cost}
 use Rattle.packing.specs.Packing.{empty, plus, goesAlone, lonePackets}
-
--- the positions of groups in a row
-unfoldable pub flat : List (List ℕ) → List ℕ
-flat [] = []
-flat (g ∷ gs) = g ++ flat gs
 
 -- how often a position stands there
 unfoldable pub times : ℕ → List ℕ → ℕ

@@ -9,8 +9,9 @@ use native.Mathlib.Omega.{arith}
 use native.Mathlib.Numerals.{add-one}
 use lib.ListN.{length, take, drop, getD, set, length-set, take-append-drop}
 use lib.Seq.{append-snoc, drop-cons, drop-drop, drop-set-lt, getD-drop, length-take-le, take-suc-set}
+use Rattle.fields.proofs.Lists.{front-end}
 use Rattle.merging.specs.Columns.{closed}
-use Rattle.merging.proofs.Parts.{first-next, first-end, first-past}
+use Rattle.merging.proofs.Parts.{first-next, first-past}
 use Rattle.merging.proofs.Closing.{closing, closing-none, closing-other, closing-later, closing-first}
 use Rattle.pending.specs.declared.Pending.{Pending}
 use Rattle.pending.specs.Table.{blank, firstFlag, inFront}
@@ -135,7 +136,7 @@ module _ (x : Pending) (flags : List ℕ) (count : ℕ) (old t : List Pending) (
       (n, sym (take-append-drop r t) ∙ ap₂ (λ a l. a ++ l) f (k .kept ∙ ap (λ m. drop m old) n))
 
   pub closing-end : count ≤ i → (r ≡ length (closed (take count flags) x old)) × (t ≡ inFront (closed (take count flags) x old) old)
-  closing-end h = closing-whole (first-end flags count i h)
+  closing-end h = closing-whole (front-end flags count i h)
 
   pub closing-past : 256 ≤ i → (r ≡ length (closed (take count flags) x old)) × (t ≡ inFront (closed (take count flags) x old) old)
   closing-past h = let w = k .wide in closing-whole (first-past flags count i (omega arith))

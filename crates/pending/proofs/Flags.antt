@@ -9,7 +9,8 @@ use native.Mathlib.Omega.{arith}
 use lib.Dec.{eqb}
 use lib.ListN.{length, take, drop, getD}
 use borrow.Author.Tests.{eq-eqb, ne-eqb}
-use Rattle.merging.proofs.Parts.{first-next, first-end, first-past}
+use Rattle.fields.proofs.Lists.{front-end}
+use Rattle.merging.proofs.Parts.{first-next, first-past}
 use Rattle.pending.specs.Table.{firstFlag}
 
 -- ---- by the flag in front
@@ -44,7 +45,7 @@ module _ (flags : List ℕ) (count i : ℕ) where
   flag-later h l e = ap firstFlag (first-next flags count i h l) ∙ flag-other (getD flags i 0) (drop (i + 1) (take count flags)) (ne-eqb (getD flags i 0) 1 e)
 
   pub flag-end : count ≤ i → firstFlag (drop i (take count flags)) ≡ 0
-  flag-end h = ap firstFlag (first-end flags count i h) ∙ flag-none
+  flag-end h = ap firstFlag (front-end flags count i h) ∙ flag-none
 
   pub flag-past : length flags ≤ i → firstFlag (drop i (take count flags)) ≡ 0
   flag-past h = ap firstFlag (first-past flags count i h) ∙ flag-none

@@ -10,12 +10,13 @@ use Rattle.fields.specs.Text.{Text, between, lower, lowered, same, alike}
 use Rattle.fields.specs.Format.{All}
 use Rattle.fields.specs.Fields.{indexedText}
 use Rattle.fields.proofs.Texts.{length-lowered}
+use Rattle.fields.proofs.Lists.{all-drop}
 use Rattle.names.specs.Pieces.{pieces}
 use Rattle.names.specs.Name.{member, item, Token, Reading, tokens, stops, readName, listed, tokensOf, spelling, isName, nameLength, allTokens, programLength, inProgram}
 use Rattle.names.proofs.Spelling.{LaterToken, spells, spelling-append, spelling-one, first-token, later-tokens}
 use Rattle.catalog.specs.Catalog.{Catalog}
 use Rattle.lists.specs.Lists.{TagList, tag}
-use Rattle.planner.specs.Tags.{Tag, tagBehind, tagsBehind}
+use Rattle.planner.specs.Tags.{Tag, tagBehind, tagsBehind, tagsOf}
 use Rattle.planner.specs.Merging.{Given, noTag, tagAt}
 use Rattle.planner.proofs.Each.{each-getD}
 use Rattle.planner.proofs.Small.{Small, small-of, small-front, small-behind, small-alike, Printed, printed-alike, printed-front}
@@ -43,6 +44,10 @@ unfolding tagsBehind
 tags-long c w before [] = refl
 tags-long c w before (t ∷ ts) = ap suc (tags-long c w (before ++ t ∷ []) ts)
 
+pub tags-length : (c : Catalog) (w : TagList) → length (tagsOf c w) ≡ length (w .tags)
+unfolding tagsOf
+tags-length c w = tags-long c w [] (w .tags)
+
 nothing-fair : Fair noTag
 unfolding noTag tokensOf listed readName allTokens isName nameLength programLength inProgram alike same lowered lower between pieces
 nothing-fair = record { long = omega arith; printed = tt; small = tt; tokens = refl }
@@ -67,11 +72,6 @@ module _ (s : Text) (ts : List Token) (e : readName s ≡ tokens ts) where
   spelled-parts n = sym (spells s ts e) ∙ ap spelling (sym (take-append-drop n ts)) ∙ spelling-append (take n ts) (drop n ts)
 
 -- ---- the last token of a tag
-all-drop : {A : Type 0} (P : A → Type 0) (n : ℕ) (xs : List A) → All P xs → All P (drop n xs)
-all-drop P zero xs h = h
-all-drop P (suc n) [] h = tt
-all-drop P (suc n) (x ∷ xs) h = all-drop P n xs (h .1)
-
 -- what holds of all but the first holds of those behind one or more
 pub all-behind : {A : Type 0} (P : A → Type 0) (n : ℕ) (xs : List A) → 1 ≤ n → All P (drop 1 xs) → All P (drop n xs)
 all-behind P zero xs l h = absurd (omega arith)

@@ -109,7 +109,7 @@ merges-drop g rs (k ∷ ks) = go (leb 2 (many (isCovered k) rs)) refl (merges-dr
     go true e h = rw e (ap (λ ms. made ∷ ms) h)
     go false e h = h
 
-next-drop : (g : Given) (limit : ℕ) (ks : List Group) (rs : List Pending) → nextMerge g limit (keep (coversTwo rs) ks) rs ≡ nextMerge g limit ks rs
+pub next-drop : (g : Given) (limit : ℕ) (ks : List Group) (rs : List Pending) → nextMerge g limit (keep (coversTwo rs) ks) rs ≡ nextMerge g limit ks rs
 unfolding nextMerge
 next-drop g limit ks rs = ap (λ ms. bestOf none (keep (passes g limit) ms)) (merges-drop g rs ks)
 

@@ -40,7 +40,7 @@ listed-bytes w =
 
 -- ---- the reads
 module _ (k : Cost) (c : Catalog) (w : TagList) (h : tagList .within w) where
-  tags-fair : All Fair (givenOf k c w .tags)
+  pub tags-fair : All Fair (givenOf k c w .tags)
   unfolding givenOf tagsOf
   tags-fair = fair-tags c w [] (w .tags) (listed-within w h .1)
 

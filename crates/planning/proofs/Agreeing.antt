@@ -22,13 +22,16 @@ use Rattle.planner.specs.Tags.{Above, Tag, tagsOf}
 use Rattle.planner.specs.Candidates.{isNear, clustersOf}
 use Rattle.planner.specs.Plan.{givenOf}
 use Rattle.planner.proofs.Each.{each-of, each-keep, each-map}
+use Rattle.planner.proofs.Listed.{tags-length}
 use Rattle.candidates.specs.Columns.{Elements, rowKey, isKeyed, firstRows, hasTwoNames, bunchOf, wholesIn, positions, arrayKey, sameArray, isPiece, isFirstPiece, lastPieces, indexesIn, isInRun, bunchesFrom, arrayRuns, runsIn}
 use Rattle.candidates.proofs.Kept.{keep-agree, map-agree}
-use Rattle.candidates.proofs.Told.{Listing, tags-length}
+use Rattle.candidates.proofs.Told.{Listing}
+use Rattle.candidates.proofs.WholesOf.{each-first}
+use Rattle.candidates.proofs.Spreading.{each-last}
 use Rattle.planning.specs.Tables.{namesIn}
 use Rattle.planning.specs.Stages.{firstsIn, structsIn, runsAmong}
 use Rattle.planning.proofs.Tagged.{listing}
-use Rattle.planning.proofs.Soundness.{each-first, each-position, each-lastly}
+use Rattle.planning.proofs.Soundness.{each-position}
 
 -- ---- tests that agree
 
@@ -153,7 +156,7 @@ module _ (nm nm′ : ℕ → Text) (first first′ : ℕ → Bool) (n : ℕ) (h 
         ∙ ap joined (map-agree f f′ (lastPieces nm′ e ps) (all-weaken Small (λ p. f p ≡ f′ p) (lastPieces nm′ e ps)
         (λ p l. ap (λ is. bunchesFrom nm e all p 1 (clustersOf (isNear gap (e .width p)) (rising is))) (indexes-agree p ps l m)
         ∙ bunches-agree p 1 all (clustersOf (isNear gap (e .width p)) (rising (indexesIn nm′ e ps p))) l low)
-        (each-lastly nm′ first′ e Small ps m)))
+        (each-last nm′ e Small ps m)))
 
 -- ---- the groups of a planning
 

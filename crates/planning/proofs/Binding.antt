@@ -8,10 +8,10 @@ use mathlib.Core.List.{List, [], _∷_, _++_, map}
 use mathlib.Core.Option.{Option, none, some}
 use native.Mathlib.Omega.{arith}
 use lib.Dec.{eqb, leb}
-use lib.ListN.{length, take, drop, getD, length-take, drop-of-length-le}
+use lib.ListN.{length, take, drop, getD, length-take}
 use lib.Seq.{drop-cons, getD-take}
 use borrow.Author.Tests.{eq-eqb, ne-eqb}
-use Rattle.fields.specs.Text.{Text}
+use Rattle.fields.proofs.Lists.{front-end, empty-list}
 use Rattle.names.specs.Name.{tokensOf}
 use Rattle.names.specs.Pieces.{joined}
 use Rattle.catalog.specs.Finding.{any}
@@ -19,27 +19,17 @@ use Rattle.packing.specs.Packing.{empty}
 use Rattle.lists.specs.Lists.{listOf}
 use Rattle.planner.specs.Lists.{keep, given}
 use Rattle.planner.specs.Candidates.{Group}
-use Rattle.planner.specs.Merging.{Pending, Given, Merged, mergedOf, merge, boundTogether}
-use Rattle.planner.proofs.Each.{IfThere}
-use Rattle.planner.proofs.Through.{Made, merge-made}
+use Rattle.planner.specs.Merging.{Pending, Given, Merged, merge, boundTogether}
 use Rattle.candidates.specs.Columns.{Bunch, groupOf, bunchName, positions}
+use Rattle.merging.specs.Told.{ofKind}
 use Rattle.planning.specs.declared.Offer.{Offer}
 use Rattle.planning.specs.Tables.{namesIn, noBunch, bunchAt, groupAt, Grouped, Indexed, Reading, Kinded}
 use Rattle.planning.specs.Merges.{offerOf, coveredBy, Offered, Applied, Lookup, isBinding, bindingAt, bindingOf}
 use Rattle.planning.specs.Entering.{levelOf, LevelsTold}
-use Rattle.planning.specs.Binding.{afterMerge, OneBound, leveled, LevelBound, AllBound}
+use Rattle.planning.specs.Binding.{afterMerge, OneBound, LevelBound, AllBound}
+use Rattle.planning.proofs.Weighing.{merge-saves}
 
 -- ---- one struct
-
--- a merge saves a read
-merge-saves : (g : Given) (rs : List Pending) (k : Group) (mm : Merged) → merge g rs k ≡ some mm → 0 < mm .saved
-unfolding mergedOf
-merge-saves g rs k mm e =
-    let h : Made g rs (k ∷ []) mm = subst (IfThere (Made g rs (k ∷ []))) e (merge-made g rs k) in
-    let s = ap (λ (x : Merged). x .saved) (h .is) in
-    let t = h .two in
-    omega arith
-
 module _ (g : Given) (rs : List Pending) (k : Group) where
   after-none : merge g rs k ≡ none → afterMerge g rs k ≡ rs
   unfolding afterMerge given
@@ -129,25 +119,22 @@ one-next l n i d h k =
     let z : suc i ≡ i + 1 = omega arith in
     drop-cons (take n l) i d (omega arith) ∙ ap₂ (λ x m. x ∷ drop m (take n l)) (getD-take n l i d h) z
 
-one-past : {A : Type 0} (l : List A) (n i : ℕ) → n ≤ i → drop i (take n l) ≡ []
-one-past l n i h = let t = length-take n l in let z : length (take n l) ≤ i = omega arith in drop-of-length-le (take n l) z
-
 module _ (g : Given) (bs : List Bunch) (level : ℕ) (levels : List ℕ) (structs : ℕ) where
   -- the groups of the level, from a struct on
   unfoldable pub leftOn : ℕ → List Group
-  leftOn j = map (groupOf (namesIn g)) (leveled level (drop j (take structs levels)) (drop j (take structs bs)))
+  leftOn j = map (groupOf (namesIn g)) (ofKind level (drop j (take structs levels)) (drop j (take structs bs)))
 
   on-end : (j : ℕ) → structs ≤ j → leftOn j ≡ []
-  unfolding leftOn leveled
-  on-end j h = rw (one-past levels structs j h)
+  unfolding leftOn ofKind
+  on-end j h = rw (front-end levels structs j h)
 
   module _ (j : ℕ) (h : j < structs) (a : structs ≤ length levels) (b : structs ≤ length bs) where
     on-here : getD levels j 0 ≡ level → leftOn j ≡ groupAt g bs j ∷ leftOn (j + 1)
-    unfolding leftOn leveled groupAt bunchAt
+    unfolding leftOn ofKind groupAt bunchAt
     on-here e = rw (one-next levels structs j 0 h a, one-next bs structs j noBunch h b, eq-eqb (getD levels j 0) level e)
 
     on-other : (getD levels j 0 ≡ level → ⊥) → leftOn j ≡ leftOn (j + 1)
-    unfolding leftOn leveled
+    unfolding leftOn ofKind
     on-other e = rw (one-next levels structs j 0 h a, one-next bs structs j noBunch h b, ne-eqb (getD levels j 0) level e)
 
 -- the structs before `j` are bound, those of the level from `j` on are left
@@ -228,14 +215,14 @@ module _ (g : Given) (room level : ℕ) where
       go false n = ne-eqb 0 level (λ q. omega arith)
 
   level-kept : (bs : List Bunch) → 1 ≤ level
-      → leveled level (map (levelOf g room) bs) bs ≡ keep (λ b. isBinding g room b && eqb (length (tokensOf (bunchName (namesIn g) b))) level) bs
-  unfolding leveled keep
+      → ofKind level (map (levelOf g room) bs) bs ≡ keep (λ b. isBinding g room b && eqb (length (tokensOf (bunchName (namesIn g) b))) level) bs
+  unfolding ofKind keep
   level-kept [] h = refl
   level-kept (b ∷ bs) h = rw (level-test b h, level-kept bs h)
 
-  level-groups : (bs : List Bunch) (ls : List ℕ) → 1 ≤ level → ls ≡ map (levelOf g room) bs → map (groupOf (namesIn g)) (leveled level ls bs) ≡ bindingAt g room bs level
+  level-groups : (bs : List Bunch) (ls : List ℕ) → 1 ≤ level → ls ≡ map (levelOf g room) bs → map (groupOf (namesIn g)) (ofKind level ls bs) ≡ bindingAt g room bs level
   unfolding bindingAt
-  level-groups bs ls h e = ap (λ x. map (groupOf (namesIn g)) (leveled level x bs)) e ∙ ap (map (groupOf (namesIn g))) (level-kept bs h)
+  level-groups bs ls h e = ap (λ x. map (groupOf (namesIn g)) (ofKind level x bs)) e ∙ ap (map (groupOf (namesIn g))) (level-kept bs h)
 
 -- the groups of the levels from one on
 unfoldable pub leftFrom : Given → ℕ → List Bunch → ℕ → List Group
@@ -288,7 +275,7 @@ module _ (list : List ℕ) (room : ℕ) (places indexes spellers spans numbers w
               let v = t .told g bs rs k l rd kd in
               let cs : List Bunch = take structs bs in
               let q = o g bs (v .reads) (k .grouped) (k .indexed) l (v .reading) (v .kinded) in
-              let ks : List Group = map (groupOf (namesIn g)) (leveled level (take structs levels) cs) in
+              let ks : List Group = map (groupOf (namesIn g)) (ofKind level (take structs levels) cs) in
               let e : ks ≡ bindingAt g room cs level = level-groups g room level cs (take structs levels) (w .0) (t .leveling g bs indexes numbers asks stops serves k l) in
               record {
                 reads = boundTogether g ks (v .reads);
@@ -314,10 +301,6 @@ module _ (list : List ℕ) (room : ℕ) (places indexes spellers spans numbers w
         (subst (λ x. Reading (boundTogether g x rs) members′ lens′ requests′ replies′ n) e (a .0), subst (λ x. Kinded g bs (boundTogether g x rs) kinds′ n) e (a .1))
 
 -- ---- a list that names nothing to be read together
-empty-list : (ts : List Text) → length ts ≡ 0 → ts ≡ []
-empty-list [] e = refl
-empty-list (t ∷ ts) e = absurd (omega arith)
-
 binds-nothing : (g : Given) (room : ℕ) → g .list .together ≡ [] → (b : Bunch) → isBinding g room b ≡ false
 unfolding isBinding any
 binds-nothing g room e b = rw e (go (leb (b .weight + 10) room))

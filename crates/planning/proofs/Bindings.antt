@@ -23,15 +23,16 @@ use Rattle.planner.specs.Merging.{Given, tagAt}
 use Rattle.planner.specs.Plan.{givenOf, togetherGroups}
 use Rattle.planner.proofs.Each.{each-keep}
 use Rattle.planner.proofs.Listed.{fair-at}
+use Rattle.planner.proofs.Writable.{tags-fair}
 use Rattle.candidates.specs.Columns.{Bunch, groupOf, positions}
 use Rattle.candidates.proofs.Kept.{keep-map, keep-same, keep-both, map-agree, joined-map}
 use Rattle.candidates.proofs.WholesOf.{namedAbove, bunchAbove, structs-are, groups-are}
 use Rattle.candidates.proofs.Levels.{bunchLevel, Leveled, levels-within, outermost-bunches}
+use Rattle.considered.proofs.Listing.{tokens-few}
 use Rattle.planning.specs.Tables.{namesIn}
 use Rattle.planning.specs.Merges.{isBinding, bindingAt, bindingOf}
 use Rattle.planning.specs.Stages.{firstsIn, structsIn}
-use Rattle.planning.proofs.Tagged.{listing, all-fair}
-use Rattle.considered.proofs.Listing.{tokens-few}
+use Rattle.planning.proofs.Tagged.{listing}
 
 -- ---- level by level
 
@@ -52,7 +53,7 @@ module _ (k : Cost) (c : Catalog) (w : TagList) (h : tagList .within w) where
   -- the tokens of a tag
   pub few-at : (p : ℕ) → length (tokensOf (namesIn g p)) ≤ 64
   unfolding namesIn
-  few-at p = tokens-few (tagAt g p .text) (fair-at g p (all-fair k c w h) .long)
+  few-at p = tokens-few (tagAt g p .text) (fair-at g p (tags-fair k c w h) .long)
 
   -- the levels of the structs
   abbrev Leveling : Bunch → Type 0

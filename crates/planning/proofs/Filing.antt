@@ -4,7 +4,7 @@ use Prim.Native.Nat.{ℕ, suc, _+_, _-_, _%_, _^_, _≤_, _<_}
 use native.Mathlib.Omega.{arith}
 use mathlib.Core.Path.{_≡_, refl, sym, ap, ap₂, subst, _∙_}
 use mathlib.Core.List.{List, [], _∷_, _++_}
-use lib.ListN.{length, take, drop, getD, length-append, length-take, drop-of-length-le}
+use lib.ListN.{length, take, drop, getD, length-append, length-take}
 use lib.Seq.{drop-drop, drop-cons, getD-take, length-take-le}
 use Rattle.fields.specs.Format.{All}
 use Rattle.fields.specs.Fields.{digits}
@@ -13,6 +13,7 @@ use Rattle.fields.specs.Writing.{patch, answered}
 use Rattle.fields.proofs.Spelled.{length-digits}
 use Rattle.fields.proofs.Patches.{length-patch, patch-answered}
 use Rattle.fields.proofs.Filling.{Filling, filling-room, placing-start, placing-end, digits-one, digits-fit}
+use Rattle.fields.proofs.Lists.{front-end}
 use Rattle.names.specs.Pieces.{joined}
 use Rattle.planner.specs.Lists.{sum}
 use Rattle.pending.specs.declared.Pending.{Pending as Row}
@@ -31,9 +32,6 @@ rows-next s n i h l =
     let z : suc i ≡ i + 1 = omega arith in
     drop-cons (take n s) i blank (omega arith) ∙ ap₂ (λ x m. x ∷ drop m (take n s)) (getD-take n s i blank h) z
 
-rows-end : (s : List Row) (n i : ℕ) → n ≤ i → drop i (take n s) ≡ []
-rows-end s n i h = let a = length-take n s in let z : length (take n s) ≤ i = omega arith in drop-of-length-le (take n s) z
-
 module _ (t : Columns) (list : List ℕ) (table : List Row) (members : List ℕ) (count : ℕ) where
   -- the reads that are left
   unfoldable pub ahead : ℕ → ℕ → List Laid
@@ -51,7 +49,7 @@ module _ (t : Columns) (list : List ℕ) (table : List Row) (members : List ℕ)
 
   ahead-end : (p i : ℕ) → count ≤ i → ahead p i ≡ []
   unfolding ahead laidBy
-  ahead-end p i h = rw (rows-end table count i h)
+  ahead-end p i h = rw (front-end table count i h)
 
 -- ---- the loop: `old` is the buffer with the first three bytes of the file
 pub record Filing (t : Columns) (list : List ℕ) (table : List Row) (members : List ℕ) (count : ℕ) (old out : List ℕ) (at p i : ℕ) : Type 0 where

@@ -4,7 +4,7 @@
 use Prim.Native.Nat.{ℕ, _+_, _≤_, _<_}
 use native.Mathlib.Omega.{arith}
 use mathlib.Core.Path.{_≡_, refl, sym, ap, ap₂, _∙_}
-use mathlib.Core.List.{List, [], _∷_, _++_, map, map-append, append-assoc}
+use mathlib.Core.List.{List, [], _∷_, _++_, map, map-append}
 use lib.ListN.{length, take, drop, length-append, length-map, replicate, length-replicate}
 use lib.Seq.{take-append-seam}
 use Rattle.fields.specs.Format.{All}
@@ -19,11 +19,12 @@ use Rattle.lists.specs.Lists.{TagList, tagList}
 use Rattle.planner.specs.Merging.{Given}
 use Rattle.planner.specs.Plan.{givenOf}
 use Rattle.candidates.specs.Columns.{Bunch, Elements, endsFrom, bunchName}
+use Rattle.candidates.proofs.Laying.{length-ends, ends-append}
+use Rattle.candidates.proofs.Kept.{joined-append}
 use Rattle.planning.specs.Tables.{namesIn, Grouped, Spelled}
 use Rattle.planning.specs.Stages.{structsIn, runsAmong, bunchesIn, Elemental}
 use Rattle.planning.proofs.Soundness.{Below, structs-unnumbered, groups-sound, groups-within}
 use Rattle.planning.proofs.Starting.{take-replicate}
-use Rattle.candidates.proofs.Laying.{length-ends, ends-append}
 
 -- ---- one column
 
@@ -37,11 +38,6 @@ column-filled A B d m e f l =
     ∙ take-append-seam (A ++ B) x
 
 -- ---- rows of lists
-
-joined-both : (xs ys : List (List ℕ)) → joined (xs ++ ys) ≡ joined xs ++ joined ys
-unfolding joined
-joined-both [] ys = refl
-joined-both (x ∷ xs) ys = ap (λ r. x ++ r) (joined-both xs ys) ∙ sym (append-assoc x (joined xs) (joined ys))
 
 -- ---- the columns of structs and runs
 
@@ -98,7 +94,7 @@ module _ (ws us : List Bunch) where
   serves-filled out new t e l =
       let A = joined (servesOf ws) in
       let B = joined (servesOf us) in
-      let j : joined (servesOf (ws ++ us)) ≡ A ++ B = ap joined (map-append (λ b. b .serves) ws us) ∙ joined-both (servesOf ws) (servesOf us) in
+      let j : joined (servesOf (ws ++ us)) ≡ A ++ B = ap joined (map-append (λ b. b .serves) ws us) ∙ joined-append (servesOf ws) (servesOf us) in
       let c : length (joined (servesOf (ws ++ us))) ≡ length A + length B = ap length j ∙ length-append A B in
       ap₂ take c e ∙ column-filled A B out (length A) refl t l ∙ sym j
 

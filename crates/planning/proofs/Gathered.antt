@@ -18,21 +18,21 @@ use Rattle.catalog.specs.Catalog.{catalogOf}
 use Rattle.packing.specs.Packing.{standard}
 use Rattle.lists.specs.Lists.{listOf}
 use Rattle.planner.specs.Lists.{keep, sum}
-use Rattle.planner.specs.Rows.{Row, rowsFrom}
+use Rattle.planner.specs.Rows.{Row, rowsFrom, isSet}
 use Rattle.planner.specs.Merging.{Given}
 use Rattle.planner.specs.Plan.{givenOf}
 use Rattle.planner.proofs.Each.{each-of, each-kept}
-use Rattle.candidates.specs.Columns.{Bunch, Elements, tagName, isOne, rowsIn, endsFrom, rowKey, isKeyed, firstRows, hasTwoNames, bunchOf, wholesIn, runsIn, elementsIn, hasRoom, runsFor}
+use Rattle.candidates.specs.Columns.{Bunch, Elements, tagName, rowsIn, endsFrom, rowKey, isKeyed, firstRows, hasTwoNames, bunchOf, wholesIn, runsIn, elementsIn, hasRoom, runsFor}
 use Rattle.candidates.proofs.Kept.{map-same}
 use Rattle.candidates.proofs.Sharing.{length-joined, Apart, key-shares, apart-keep}
 use Rattle.candidates.proofs.Spreading.{few-groups, few-served}
+use Rattle.candidates.proofs.Laying.{length-ends}
 use Rattle.planning.specs.Tables.{namesIn}
 use Rattle.planning.specs.Choosing.{servedFrom}
 use Rattle.planning.specs.Stages.{firstsIn, structsIn, runsAmong, planningOf, Viewed, Pieced, Rowed, Wholes, Bunched}
 use Rattle.planning.proofs.Tagged.{few-tags}
 use Rattle.planning.proofs.Agreeing.{structs-agree, runs-agree}
 use Rattle.planning.proofs.Filled.{groups-told, groups-spelled}
-use Rattle.candidates.proofs.Laying.{length-ends}
 
 -- ---- the positions under all structs
 
@@ -76,18 +76,18 @@ module _ (catalog list places firsts widths indexes arrays : List ℕ) (p : Piec
   module _ (owners lengths sizes : List ℕ) (rows : ℕ) (r : Rowed catalog list owners lengths sizes rows) where
     -- the structs that the columns tell
     abbrev wholes : List Bunch
-    wholes = wholesIn (tagName list places) (isOne firsts) (rowsIn (take rows owners) lengths sizes)
+    wholes = wholesIn (tagName list places) (isSet firsts) (rowsIn (take rows owners) lengths sizes)
 
     wholes-are : wholes ≡ ws
     unfolding givenOf
     wholes-are =
-        ap (wholesIn (tagName list places) (isOne firsts)) (r .are)
-        ∙ structs-agree standard (catalogOf catalog) (listOf list) (tagName list places) (isOne firsts) (p .listing)
+        ap (wholesIn (tagName list places) (isSet firsts)) (r .are)
+        ∙ structs-agree standard (catalogOf catalog) (listOf list) (tagName list places) (isSet firsts) (p .listing)
 
     few-positions : length (joined (map (λ b. b .serves) ws)) ≤ 16384
     few-positions =
-        let n = wholes-served (tagName list places) (isOne firsts) (rowsFrom 0 (g .tags)) in
-        let e = ap (λ x. length (joined (map (λ b. b .serves) x))) (sym (ap (wholesIn (tagName list places) (isOne firsts)) (r .are)) ∙ wholes-are) in
+        let n = wholes-served (tagName list places) (isSet firsts) (rowsFrom 0 (g .tags)) in
+        let e = ap (λ x. length (joined (map (λ b. b .serves) x))) (sym (ap (wholesIn (tagName list places) (isSet firsts)) (r .are)) ∙ wholes-are) in
         let c = r .counted in
         let f = r .few in
         omega arith
@@ -163,7 +163,7 @@ module _ (catalog list places firsts widths indexes arrays : List ℕ) (p : Piec
 
   -- the runs that the columns tell
   abbrev runsTold : ℕ → ℕ → List Bunch
-  runsTold gap from = runsFor (tagName list places) (isOne firsts) elements gap tags structs from
+  runsTold gap from = runsFor (tagName list places) (isSet firsts) elements gap tags structs from
 
   few : tags ≤ 256
   few = omega (arith, v .counted, few-tags standard (catalogOf catalog) (listOf list) (v .accepted .within))
@@ -171,9 +171,9 @@ module _ (catalog list places firsts widths indexes arrays : List ℕ) (p : Piec
   runs-told : (from : ℕ) → from ≤ 16384 → runsTold (standard .«bytes_per_read») from ≡ us
   unfolding runsFor hasRoom givenOf
   runs-told from l =
-      let r = runs-agree standard (catalogOf catalog) (listOf list) (tagName list places) (isOne firsts) (p .listing) elements in
+      let r = runs-agree standard (catalogOf catalog) (listOf list) (tagName list places) (isSet firsts) (p .listing) elements in
       rw (le-leb structs 8192 (w .few), le-leb from 16384 l, le-leb tags 256 few)
-      (ap (runsIn (tagName list places) (isOne firsts) elements (standard .«bytes_per_read»)) (v .counted) ∙ r)
+      (ap (runsIn (tagName list places) (isSet firsts) elements (standard .«bytes_per_read»)) (v .counted) ∙ r)
 
   few-runs : length us ≤ 256
   few-runs =

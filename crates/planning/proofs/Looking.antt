@@ -1,7 +1,7 @@
 -- The search for the best merge, group by group: what is left gives the whole, and the flags of the groups behind are those of the candidates
 -- that cover two reads.
 -- Assumes nothing.
-use Prim.Native.Nat.{ℕ, _+_, _-_, _≤_, _<_}
+use Prim.Native.Nat.{ℕ, _+_, _≤_, _<_}
 use mathlib.Core.Path.{_≡_, refl, sym, ap, ap₂, subst, _∙_}
 use mathlib.Core.Bool.{Bool, true, false, cond}
 use mathlib.Core.List.{List, [], _∷_, _++_, map, map-append}
@@ -11,20 +11,20 @@ use native.Mathlib.Numerals.{add-one}
 use lib.ListN.{length, take, drop, getD, set, length-set, length-drop}
 use lib.Seq.{take-suc, drop-cons, drop-drop, take-length, take-set-le, drop-set-lt, getD-set-same, getD-drop, length-take-le}
 use lib.Dec.{eqb, leb}
-use Rattle.fields.proofs.Lists.{at-cond}
+use Rattle.fields.proofs.Lists.{at-cond, front-end}
 use Rattle.packing.specs.declared.Cost.{Cost}
 use Rattle.planner.specs.Lists.{keep, given}
 use Rattle.planner.specs.Candidates.{Group}
 use Rattle.planner.specs.Merging.{Pending, Given, Merged, isCovered, merge, passes, bestOf, mergesOf, nextMerge}
 use Rattle.candidates.specs.Columns.{Bunch, groupOf}
+use Rattle.candidates.proofs.Kept.{keep-append}
 use Rattle.merging.specs.Columns.{flagged}
-use Rattle.merging.proofs.Parts.{first-next, first-end}
+use Rattle.merging.proofs.Parts.{first-next}
 use Rattle.planning.specs.declared.Offer.{Offer}
 use Rattle.planning.specs.Tables.{namesIn, noBunch, bunchAt, groupAt, Reading}
 use Rattle.planning.specs.Merges.{noOffer, Modest, livingOf, Chosen, Lookup, NextTold}
 use Rattle.planning.specs.Turns.{Holds, turned, heldAfter, TurnTold}
 use Rattle.planning.proofs.Offers.{modest-none}
-use Rattle.candidates.proofs.Kept.{keep-append}
 
 -- ---- lists, one element more
 drop-one : {A : Type 0} (l : List A) (j : ℕ) (d : A) → j < length l → drop j l ≡ getD l j d ∷ drop (j + 1) l
@@ -62,7 +62,7 @@ module _ (g : Given) (bs : List Bunch) (alive : List ℕ) where
 
   from-end : (j : ℕ) → length bs ≤ j → groupsFrom j ≡ []
   unfolding groupsFrom flagged
-  from-end j h = ap (λ fs. map (groupOf (namesIn g)) (flagged fs (drop j bs))) (first-end alive (length bs) j h)
+  from-end j h = ap (λ fs. map (groupOf (namesIn g)) (flagged fs (drop j bs))) (front-end alive (length bs) j h)
 
   to-next : (j : ℕ) → j < length bs → j < length alive → groupsTo (j + 1) ≡ groupsTo j ++ cond (eqb (getD alive j 0) 1) (groupAt g bs j ∷ []) []
   unfolding groupsTo flagged groupAt bunchAt

@@ -25,8 +25,8 @@ use Rattle.planner.proofs.Each.{IfThere, each-getD, there-then}
 use Rattle.planner.proofs.Small.{Small, small-behind}
 use Rattle.planner.proofs.Items.{item-of, item-small}
 use Rattle.planner.proofs.Listed.{Fair, spelled-parts, all-behind}
+use Rattle.planner.proofs.Writable.{tags-fair}
 use Rattle.planning.specs.Tables.{largestIndex}
-use Rattle.planning.proofs.Tagged.{all-fair}
 
 -- where some are taken, it is not none
 pub filled : {A : Type 0} (n : ℕ) (xs : List A) (y : A) (ys : List A) → take n xs ≡ y ∷ ys → 0 < n
@@ -86,4 +86,4 @@ pub near-at : (k : Cost) (c : Catalog) (w : TagList) → tagList .within w → (
 unfolding indexAt tagAt givenOf tagsOf noTag
 near-at k c w h p =
     index-of (tagAt (givenOf k c w) p .element)
-    (each-getD (λ t. IfThere NearBy (t .element)) (tagsOf c w) p noTag (all-near c w [] (w .tags) (all-fair k c w h)) tt)
+    (each-getD (λ t. IfThere NearBy (t .element)) (tagsOf c w) p noTag (all-near c w [] (w .tags) (tags-fair k c w h)) tt)

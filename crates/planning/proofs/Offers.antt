@@ -15,11 +15,13 @@ use Rattle.fields.proofs.Lists.{cond-elim, all-weaken}
 use Rattle.fields.proofs.Numbers.{limited-within}
 use Rattle.names.specs.Pieces.{joined}
 use Rattle.sizes.specs.Sizes.{indexSize, requestSize}
+use Rattle.sizes.proofs.Bounds.{index-bound}
 use Rattle.planner.specs.Lists.{keep, sum, least, greatest}
 use Rattle.planner.specs.Candidates.{Group}
 use Rattle.planner.specs.Merging.{Pending, Given, Merged, indexAt, startOf, spanOf, elementName, sizeOf, readOf, isCovered, servedBy, mergedOf, merge}
 use Rattle.planner.proofs.Each.{each-keep, each-map}
 use Rattle.candidates.specs.Columns.{Bunch, bunchName, bunchShape, groupOf}
+use Rattle.candidates.proofs.Kept.{map-agree}
 use Rattle.merging.specs.Columns.{flagged, readsIn, largestSize}
 use Rattle.planning.specs.declared.Offer.{Offer}
 use Rattle.planning.specs.Tables.{largestIndex, namesIn, bunchAt, groupAt, Sound, Indexed, Reading}
@@ -28,7 +30,6 @@ use Rattle.planning.specs.Turns.{FlagTold, wholeOffer, runOffer}
 use Rattle.planning.proofs.Flagging.{flagsBy, flagged-kept, column-kept}
 use Rattle.planning.proofs.Entries.{entry-is, sound-at}
 use Rattle.planning.proofs.Positions.{reads-are, covered-each}
-use Rattle.sizes.proofs.Bounds.{index-bound}
 
 -- ---- the offer of a run
 module _ (j saved before ask weight from to : ℕ) where
@@ -95,10 +96,6 @@ limited-each : (most : ℕ) (ns : List ℕ) → All (λ (n : ℕ). n ≤ most) n
 limited-each most [] h = refl
 limited-each most (n ∷ ns) h = ap₂ (λ x y. x ∷ y) (limited-within most n (h .0)) (limited-each most ns (h .1))
 
-map-each : (f h : ℕ → ℕ) (ns : List ℕ) → All (λ (n : ℕ). f n ≡ h n) ns → map f ns ≡ map h ns
-map-each f h [] e = refl
-map-each f h (n ∷ ns) e = ap₂ (λ x y. x ∷ y) (e .0) (map-each f h ns (e .1))
-
 greatest-within : (m : ℕ) (ns : List ℕ) → All (λ (n : ℕ). n ≤ m) ns → greatest ns ≤ m
 unfolding greatest
 greatest-within m [] h = omega arith
@@ -140,7 +137,7 @@ module _ (rs : List Pending) (k : Group) (members lens requests replies covered 
   indexes-are g indexes ix w =
       let ps : List ℕ = servedBy (keep (isCovered k) rs) in
       ap (map (λ p. getD indexes p 0)) served-are
-      ∙ map-each (λ p. getD indexes p 0) (indexAt g) ps (all-weaken (λ p. p < 256) (λ p. getD indexes p 0 ≡ indexAt g p) ps ix (covered-each (λ p. p < 256) k rs w))
+      ∙ map-agree (λ p. getD indexes p 0) (indexAt g) ps (all-weaken (λ p. p < 256) (λ p. getD indexes p 0 ≡ indexAt g p) ps ix (covered-each (λ p. p < 256) k rs w))
 
 -- ---- the read of a group
 whole-size : (g : Given) (b : Bunch) (ps : List ℕ) → b .number ≡ 0 → sizeOf g (bunchShape (namesIn g) b) ps ≡ record { request = requestSize (g .catalog) (bunchName (namesIn g) b); reply = b .weight + 10 }

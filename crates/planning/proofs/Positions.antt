@@ -14,22 +14,23 @@ use Rattle.fields.specs.Format.{All}
 use Rattle.fields.specs.Places.{part}
 use Rattle.fields.specs.Writing.{answered}
 use Rattle.fields.proofs.Lists.{all-append, drop-take}
+use Rattle.fields.proofs.Patches.{answer-front}
 use Rattle.names.specs.Pieces.{joined}
 use Rattle.catalog.specs.Finding.{every}
 use Rattle.planner.specs.Lists.{keep, isOneOf, sum}
 use Rattle.planner.specs.Serving.{once}
 use Rattle.planner.specs.Candidates.{Group}
 use Rattle.planner.specs.Merging.{Pending, Given, isCovered, servedBy}
+use Rattle.planner.specs.Rows.{isSet}
 use Rattle.planner.proofs.Each.{of-each, each-every, is-among}
 use Rattle.candidates.specs.Columns.{Bunch, groupOf, endsFrom}
-use Rattle.merging.specs.Columns.{listed, cut, marksOf, isSet, flagsOf, readsIn}
+use Rattle.merging.specs.Columns.{listed, cut, marksOf, flagsOf, readsIn}
 use Rattle.planning.specs.Tables.{noBunch, bunchAt, groupAt, Grouped, Reading}
 use Rattle.planning.specs.Merges.{coveredBy}
 use Rattle.planning.specs.Choosing.{servedFrom}
 use Rattle.planning.specs.Turns.{FlagTold}
 use Rattle.planning.proofs.Flagging.{flags-count, once-set}
 use Rattle.planning.proofs.Entries.{element-at, sound-at, served-first, served-later}
-use Rattle.fields.proofs.Patches.{answer-front}
 
 -- ---- two parts in a row
 pub halves : (x y ms : List ℕ) → take (length (x ++ y)) ms ≡ x ++ y → (take (length x) ms ≡ x) × (take (length y) (drop (length x) ms) ≡ y)

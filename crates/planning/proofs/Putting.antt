@@ -4,7 +4,7 @@ use Prim.Native.Nat.{ℕ, suc, _+_, _≤_}
 use native.Mathlib.Omega.{arith}
 use mathlib.Core.Path.{_≡_, sym, ap, subst, _∙_}
 use mathlib.Core.List.{List, [], _∷_, _++_, append-nil}
-use lib.ListN.{length, take, drop, length-append, take-append-drop}
+use lib.ListN.{length, drop, length-append}
 use lib.Seq.{drop-length}
 use Rattle.fields.specs.Writing.{patch, answered}
 use Rattle.fields.proofs.Patches.{patch-fits, patch-patch}
@@ -27,10 +27,6 @@ unfolding answered
 answer-whole file old out l e = e ∙ rw (l, drop-length old) (append-nil file)
 
 -- ---- at a place
--- nothing is put
-pub put-nothing : (d : List ℕ) (at : ℕ) → at ≤ length d → patch d at [] ≡ d
-put-nothing d at h = let z : at + 0 ≡ at = omega arith in patch-fits d at [] (omega arith) ∙ rw (z, append-nil (take at d)) (take-append-drop at d)
-
 -- bytes right behind others
 pub put-behind : (old : List ℕ) (at : ℕ) (x y a b : List ℕ) (p : ℕ) → at + length (x ++ y) ≤ length old → a ≡ patch old at x → p ≡ at + length x → b ≡ patch a p y
     → b ≡ patch old at (x ++ y)

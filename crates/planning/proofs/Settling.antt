@@ -9,8 +9,8 @@ use lib.ListN.{length, take}
 use Rattle.packing.specs.declared.Cost.{Cost}
 use Rattle.planner.specs.Lists.{keep, given}
 use Rattle.planner.specs.Candidates.{Group}
-use Rattle.planner.specs.Merging.{Pending, Given, Merged, passes, bestOf, nextMerge, rounds}
-use Rattle.planner.proofs.Shrinks.{coversTwo, merges-drop, rounds-drop}
+use Rattle.planner.specs.Merging.{Pending, Given, Merged, passes, nextMerge, rounds}
+use Rattle.planner.proofs.Shrinks.{coversTwo, rounds-drop, next-drop}
 use Rattle.candidates.specs.Columns.{Bunch}
 use Rattle.planning.specs.declared.Offer.{Offer}
 use Rattle.planning.specs.Tables.{groupAt, Reading, Kinded}
@@ -26,16 +26,12 @@ module _ (g : Given) (limit : ℕ) (ks : List Group) (rs : List Pending) where
   rounds-none zero e = refl
   rounds-none (suc n) e = rw e
 
-  next-few : nextMerge g limit (keep (coversTwo rs) ks) rs ≡ nextMerge g limit ks rs
-  unfolding nextMerge
-  next-few = ap (λ ms. bestOf none (keep (passes g limit) ms)) (merges-drop g rs ks)
-
   -- one more, by the candidates that cover two reads
   rounds-some : (n : ℕ) (mm : Merged) → nextMerge g limit ks rs ≡ some mm → rounds g limit (keep (coversTwo rs) ks) n (mm .reads) ≡ rounds g limit ks (suc n) rs
   unfolding rounds given
   rounds-some n mm e =
       let f : List Group = keep (coversTwo rs) ks in
-      sym (ap (λ o. given o rs (λ m. rounds g limit f n (m .reads))) (next-few ∙ e)) ∙ rounds-drop g limit (suc n) rs ks
+      sym (ap (λ o. given o rs (λ m. rounds g limit f n (m .reads))) (next-drop g limit ks rs ∙ e)) ∙ rounds-drop g limit (suc n) rs ks
 
 -- ---- the reads under way
 -- `k` rounds are left, of the candidates whose flags are set now

@@ -21,7 +21,6 @@ use Rattle.names.specs.Name.{Key, member, item, several, Token, Reading, tokens
 use Rattle.names.proofs.Spelling.{fronts, tokens-are}
 use Rattle.names.proofs.Growing.{indexed-name}
 use Rattle.catalog.specs.Catalog.{Catalog}
-use Rattle.catalog.specs.Finding.{any}
 use Rattle.lookup.specs.Info.{infoOf}
 use Rattle.sizes.specs.Sizes.{keySize, keySizes, requestFrom, requestSize, indexSize, elementSize}
 use Rattle.packing.specs.declared.Cost.{Cost}
@@ -34,14 +33,16 @@ use Rattle.planner.specs.Merging.{Given, noTag, tagAt, indexAt, elementName}
 use Rattle.planner.specs.Plan.{givenOf}
 use Rattle.planner.proofs.Listed.{fair-at}
 use Rattle.planner.proofs.Each.{IfThere, each-of, each-asList, each-kept, each-keep, each-getD, each-map, each-joined, each-both, there-then}
-use Rattle.candidates.specs.Columns.{Bunch, Elements, rowKey, isKeyed, firstRows, hasTwoNames, bunchOf, wholesIn, positions, sameArray, isPiece, isFirstPiece, lastPieces, indexesIn, isInRun, bunchesFrom, arrayRuns, runsIn, bunchName}
+use Rattle.planner.proofs.Writable.{tags-fair}
+use Rattle.candidates.specs.Columns.{Bunch, Elements, rowKey, isKeyed, firstRows, hasTwoNames, bunchOf, wholesIn, positions, isPiece, isFirstPiece, lastPieces, indexesIn, isInRun, bunchesFrom, arrayRuns, runsIn, bunchName}
 use Rattle.candidates.proofs.Known.{Spells, PieceOf}
 use Rattle.candidates.proofs.Told.{EachAt, Told, known-at}
-use Rattle.candidates.proofs.WholesOf.{row-name}
+use Rattle.candidates.proofs.WholesOf.{row-name, each-first}
 use Rattle.candidates.proofs.RunsOf.{Lies}
+use Rattle.candidates.proofs.Spreading.{each-last}
 use Rattle.planning.specs.Tables.{largestIndex, namesIn, Sound}
 use Rattle.planning.specs.Stages.{firstsIn, structsIn, runsAmong, bunchesIn, Elemental}
-use Rattle.planning.proofs.Tagged.{all-told, count-tags, few-tags, all-fair}
+use Rattle.planning.proofs.Tagged.{all-told, count-tags, few-tags}
 use Rattle.planning.proofs.Near.{filled, near-at}
 
 -- the positions that a group names are below `n`
@@ -87,11 +88,6 @@ record RowSound (w : TagList) (nm : ℕ → Text) (n : ℕ) (r : Row) : Type 0 w
   free : isBarred w (lowered (take (r .end) (nm (r .tag)))) ≡ false
 
 -- what holds of each row holds of the first of each key
-pub each-first : (nm : ℕ → Text) (P : Row → Type 0) (rs : List Row) → All P rs → All P (firstRows nm rs)
-unfolding firstRows
-each-first nm P [] h = tt
-each-first nm P (r ∷ rs) h = (h .0, each-keep P (λ x. not (isKeyed nm (rowKey nm r) x)) (firstRows nm rs) (each-first nm P rs (h .1)))
-
 module _ (w : TagList) (nm : ℕ → Text) (first : ℕ → Bool) where
   row-sound : (i n : ℕ) (t : Tag) (a : Above) → i < n → Told nm first i t → Spells t a × Free w a → RowSound w nm n (rowOf i a)
   row-sound i n t a l h s =
@@ -198,11 +194,6 @@ each-position i zero m l = tt
 each-position i (suc n) m l = (omega arith, each-position (i + 1) n m (omega arith))
 
 module _ (nm : ℕ → Text) (first : ℕ → Bool) (e : Elements) where
-  pub each-lastly : (P : ℕ → Type 0) (ps : List ℕ) → All P ps → All P (lastPieces nm e ps)
-  unfolding lastPieces
-  each-lastly P [] h = tt
-  each-lastly P (p ∷ ps) h = cond-elim (All P) (any (sameArray nm e p) ps) (λ _. each-lastly P ps (h .1)) (λ _. (h .0, each-lastly P ps (h .1)))
-
   -- the group of some of the elements of the array of a tag, by its number
   abbrev runOf : List ℕ → ℕ → ℕ → List ℕ → Bunch
   runOf all p n is = record { tag = p; end = e .end p; number = n; weight = e .width p; serves = keep (isInRun nm e p is) all }
@@ -225,7 +216,7 @@ module _ (nm : ℕ → Text) (first : ℕ → Bool) (e : Elements) where
       each-joined P Q (arrayRuns nm e gap all ps) (lastPieces nm e ps)
       (λ p h. each-bunch Q all p 1 (clustersOf (isNear gap (e .width p)) (rising (indexesIn nm e ps p))) (omega arith)
       (f p (h .0) (and-right (first p) (isPiece e p) (h .1))))
-      (each-lastly P ps (each-kept (λ p. p < n) (isFirstPiece first e) all (each-position 0 n n (omega arith))))
+      (each-last nm e P ps (each-kept (λ p. p < n) (isFirstPiece first e) all (each-position 0 n n (omega arith))))
 
 -- ---- the groups of a planning
 
@@ -320,7 +311,7 @@ module _ (k : Cost) (c : Catalog) (w : TagList) where
 
       short-name : (b : Bunch) → length (bunchName (namesIn g) b) ≤ 128
       unfolding bunchName namesIn
-      short-name b = omega (arith, length-take (b .end) (tagAt g (b .tag) .text), fair-at g (b .tag) (all-fair k c w d) .long)
+      short-name b = omega (arith, length-take (b .end) (tagAt g (b .tag) .text), fair-at g (b .tag) (tags-fair k c w d) .long)
 
       struct-sound : (b : Bunch) → Below count b × ((b .number ≡ 0) × (isBarred w (lowered (bunchName (namesIn g) b)) ≡ false)) → Sound g b
       unfolding givenOf

@@ -18,9 +18,9 @@ use Rattle.catalog.specs.Catalog.{Catalog, catalogOf}
 use Rattle.sizes.specs.Sizes.{readSize}
 use Rattle.sizes.specs.Told.{sizeTold}
 use Rattle.sizes.proofs.Bounds.{read-bound}
+use Rattle.sizes.proofs.Counts.{size-is}
 use Rattle.packing.specs.declared.Cost.{Cost}
 use Rattle.lists.specs.Lists.{TagList, tagList}
-use Rattle.sizes.proofs.Counts.{size-is}
 use Rattle.planner.specs.Tags.{Tag, tagBehind, tagsBehind, tagsOf}
 use Rattle.planner.specs.Candidates.{Group}
 use Rattle.planner.specs.Merging.{Pending, Given, servedBy}
@@ -28,13 +28,15 @@ use Rattle.planner.specs.Plan.{plainFrom, plainReads, givenOf}
 use Rattle.planner.proofs.Each.{each-map}
 use Rattle.planner.proofs.Listed.{Fair}
 use Rattle.planner.proofs.Small.{small-fine, small-more}
+use Rattle.planner.proofs.Writable.{tags-fair}
 use Rattle.candidates.specs.Columns.{Bunch, positions}
+use Rattle.candidates.proofs.Positions.{positions-length}
 use Rattle.merging.specs.Columns.{listed, largestSize}
 use Rattle.pending.specs.declared.Pending.{Pending as Row}
 use Rattle.planning.specs.Tables.{lensIn, kindsIn, requestsIn, repliesIn, plainRow, Reading, groupBy, Kinded}
 use Rattle.planning.specs.Choosing.{RowNamed}
 use Rattle.planning.proofs.Tabled.{map-front}
-use Rattle.planning.proofs.Tagged.{count-tags, few-tags, all-fair}
+use Rattle.planning.proofs.Tagged.{count-tags, few-tags}
 
 -- ---- columns of one number
 
@@ -187,11 +189,6 @@ module _ (c : Catalog) where
   plain-groups g bs i [] = refl
   plain-groups g bs i (t ∷ ts) = ap (λ (x : List (Option Group)). none ∷ x) (plain-groups g bs (i + 1) ts)
 
-  length-positions : (i n : ℕ) → length (positions i n) ≡ n
-  unfolding positions
-  length-positions i zero = refl
-  length-positions i (suc n) = ap suc (length-positions (i + 1) n)
-
 -- ---- the names of the tags
 
 -- they are the listed ones
@@ -222,7 +219,7 @@ module _ (k : Cost) (c : Catalog) (w : TagList) where
   starts-small h small members lens requests replies a b d e =
       let n = count-tags k c w in
       let s = plain-served c 0 (w .tags) in
-      let l : length (servedBy (plainFrom c 0 (w .tags))) ≡ length (g .tags) = ap length s ∙ length-positions c 0 (length (w .tags)) ∙ sym n in
+      let l : length (servedBy (plainFrom c 0 (w .tags))) ≡ length (g .tags) = ap length s ∙ positions-length 0 (length (w .tags)) ∙ sym n in
       record {
         counted = count-plain c 0 (w .tags) ∙ sym n;
         few = few-tags k c w h;
@@ -261,7 +258,7 @@ module _ (k : Cost) (file : List ℕ) (w : TagList) (h : tagList .within w) wher
   listed-small =
       let c = catalogOf file in
       subst (All (λ (t : Text). readSize c t .reply ≤ largestSize)) (texts-listed k c w)
-      (each-map Fair (λ t. readSize c t .reply ≤ largestSize) (λ t. t .text) (givenOf k c w .tags) (text-small file) (all-fair k c w h))
+      (each-map Fair (λ t. readSize c t .reply ≤ largestSize) (λ t. t .text) (givenOf k c w .tags) (text-small file) (tags-fair k c w h))
 
   -- THEOREM: the plain reads of a list, by a catalog file
   pub starts-reading : (members lens requests replies : List ℕ)

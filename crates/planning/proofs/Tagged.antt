@@ -6,7 +6,6 @@ use native.Mathlib.Omega.{arith}
 use mathlib.Core.Path.{_≡_, refl}
 use mathlib.Core.List.{[]}
 use lib.ListN.{length}
-use Rattle.fields.specs.Format.{All}
 use Rattle.catalog.specs.Catalog.{Catalog}
 use Rattle.packing.specs.declared.Cost.{Cost}
 use Rattle.lists.specs.Lists.{TagList, tagList}
@@ -14,11 +13,11 @@ use Rattle.planner.specs.Tags.{tagsOf}
 use Rattle.planner.specs.Merging.{tagAt}
 use Rattle.planner.specs.Plan.{givenOf}
 use Rattle.planner.proofs.Serving.{text-at}
-use Rattle.planner.proofs.Listed.{Fair, fair-tags}
-use Rattle.candidates.proofs.Told.{Listing, EachAt, Told, tags-told, tags-length}
+use Rattle.planner.proofs.Listed.{tags-length}
+use Rattle.planner.proofs.Writable.{listed-within}
+use Rattle.candidates.proofs.Told.{Listing, EachAt, Told, tags-told}
 use Rattle.planning.specs.Tables.{namesIn}
 use Rattle.planning.specs.Stages.{firstsIn}
-use Rattle.planner.proofs.Writable.{listed-within}
 
 module _ (k : Cost) (c : Catalog) (w : TagList) where
   -- the columns tell the names and the first spellings
@@ -40,7 +39,3 @@ module _ (k : Cost) (c : Catalog) (w : TagList) where
 module _ (k : Cost) (c : Catalog) (w : TagList) (h : tagList .within w) where
   pub few-tags : length (givenOf k c w .tags) ≤ 256
   few-tags = omega (arith, count-tags k c w, listed-within w h .0)
-
-  pub all-fair : All Fair (givenOf k c w .tags)
-  unfolding givenOf tagsOf
-  all-fair = fair-tags c w [] (w .tags) (listed-within w h .1)

@@ -13,6 +13,7 @@ use Rattle.sizes.specs.Sizes.{Size}
 use Rattle.packing.specs.declared.Cost.{Cost}
 use Rattle.packing.specs.Packing.{packets}
 use Rattle.packing.specs.Told.{started, stepsOf}
+use Rattle.packing.specs.Tables.{sizesOf}
 use Rattle.packing.proofs.Counting.{Low, steps-low}
 use Rattle.lists.specs.Lists.{listOf}
 use Rattle.planner.specs.Lists.{keep, given}
@@ -20,7 +21,6 @@ use Rattle.planner.specs.Candidates.{Group}
 use Rattle.planner.specs.Merging.{Pending, Given, Merged, isCovered, mergedOf, merge, packetsOf, isCheap, isFree, passes, isBetter, bestOf, mergesOf}
 use Rattle.planner.proofs.Each.{each-map}
 use Rattle.candidates.specs.Columns.{Bunch}
-use Rattle.packing.specs.Tables.{sizesOf}
 use Rattle.merging.specs.Columns.{closed, largestSize}
 use Rattle.planning.specs.declared.Offer.{Offer}
 use Rattle.planning.specs.Tables.{groupAt, Reading}
@@ -28,7 +28,7 @@ use Rattle.planning.specs.Merges.{offerOf, coveredBy, Offered, Lookup}
 use Rattle.planning.specs.Choosing.{Tells, LeadTold}
 use Rattle.planning.specs.Turns.{Holds, WeighTold, turned, heldAfter, TurnTold}
 use Rattle.planning.proofs.Flagging.{column-placed, sizes-are}
-use Rattle.planning.proofs.Weighing.{merge-is, told-request, told-reply, told-new}
+use Rattle.planning.proofs.Weighing.{merge-is, told-request, told-reply, told-new, merge-saves}
 use Rattle.planning.proofs.Applying.{all-placed, olds, made, after, after-fewer}
 
 -- ---- the packets after a merge
@@ -171,15 +171,6 @@ module _ (g : Given) (rs : List Pending) (k : Group) where
       go true q r = let z : _≡_ {A = ℕ} 0 1 = cc in absurd (omega arith)
       go false q r = refl
 
-  -- a merge saves a read
-  some-saves : (mm : Merged) → merge g rs k ≡ some mm → 0 < mm .saved
-  unfolding mergedOf
-  some-saves mm e =
-      let w = merge-is g rs k mm e in
-      let s = ap (λ x. x .saved) (w .1) in
-      let t = w .0 in
-      omega arith
-
   merges-none : merge g rs k ≡ none → mergesOf g rs (k ∷ []) ≡ []
   unfolding mergesOf given
   merges-none e = rw e
@@ -196,7 +187,7 @@ module _ (g : Given) (bs : List Bunch) (rs : List Pending) (j : ℕ) (m : Offer)
       go : (o : Option Merged) → merge g rs (groupAt g bs j) ≡ o → o ≡ none
       go none q = refl
       go (some mm) q =
-          let s = some-saves g rs (groupAt g bs j) mm q in
+          let s = merge-saves g rs (groupAt g bs j) mm q in
           let t : m .saved ≡ mm .saved = ap (λ x. x .saved) (e ∙ ap (offerOf g bs j) q) in
           absurd (omega arith)
 

@@ -28,19 +28,20 @@ use Rattle.lists.proofs.Round.{list-accepted}
 use Rattle.lists.proofs.TagPlaces.{tag-places-length, tag-shown}
 use Rattle.planner.specs.Lists.{given}
 use Rattle.planner.specs.Serving.{once}
-use Rattle.planner.specs.Rows.{Row, rowsFrom}
+use Rattle.planner.specs.Rows.{Row, rowsFrom, isSet}
 use Rattle.planner.specs.Tags.{Tag, tagsOf}
 use Rattle.planner.specs.Merging.{Given, noTag, tagAt, indexAt}
 use Rattle.planner.specs.Plan.{givenOf}
 use Rattle.planner.proofs.Serving.{text-at}
-use Rattle.candidates.specs.Columns.{tagName, isOne, rowsIn, elementsIn}
-use Rattle.candidates.proofs.Told.{tags-length}
+use Rattle.planner.proofs.Listed.{tags-length}
+use Rattle.candidates.specs.Columns.{tagName, rowsIn, elementsIn}
 use Rattle.considered.specs.Considered.{isViewed, viewed, viewedPlaces, widthOf, indexOf, arrayOf, requestOf, replyOf, viewCount}
 use Rattle.considered.specs.declared.Considered.{Considered}
 use Rattle.planning.specs.Tables.{namesIn, Indexed, Named}
 use Rattle.planning.specs.Stages.{Elemental, planningOf, Accepted, Viewed, Pieced, Rowed}
 use Rattle.planning.proofs.Tagged.{count-tags, few-tags}
 use Rattle.planning.proofs.Answered.{take-answered, answered-there, answered-past}
+use Rattle.planning.proofs.Flagging.{once-set}
 
 -- ---- both files
 
@@ -131,17 +132,12 @@ module _ (catalog list : List ℕ) (a : Accepted catalog list) where
         ap₂ take (q ∙ sym (length-map ts f)) (e ∙ ap (λ x. answered (map f x) old) tags-viewed) ∙ take-answered (map f ts) old
 
   -- a flag as it was put
-  flag-is : (b : Bool) → eqb (once b) 1 ≡ b
-  unfolding once
-  flag-is true = refl
-  flag-is false = refl
-
   module _ (old firsts : List ℕ) (e : firsts ≡ answered (map (λ t. once (t .first)) (viewed catalog list)) old) where
-    firsts-listed : (p : ℕ) → p < length (listOf list .tags) → isOne firsts p ≡ getD ts p noTag .first
-    unfolding isOne once noTag
+    firsts-listed : (p : ℕ) → p < length (listOf list .tags) → isSet firsts p ≡ getD ts p noTag .first
+    unfolding isSet once noTag
     firsts-listed p l =
         let n = tags-length (catalogOf catalog) (listOf list) in
-        ap (λ x. eqb x 1) (column-there (λ t. once (t .first)) old firsts e refl p (omega arith)) ∙ flag-is (getD ts p noTag .first)
+        ap (λ x. eqb x 1) (column-there (λ t. once (t .first)) old firsts e refl p (omega arith)) ∙ once-set (getD ts p noTag .first)
 
   module _ (old indexes : List ℕ) (z : (p : ℕ) → p < 256 → getD old p 0 ≡ 0) (e : indexes ≡ answered (map indexOf (viewed catalog list)) old) where
     pub indexes-told : Indexed g indexes

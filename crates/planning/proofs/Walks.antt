@@ -1,6 +1,6 @@
 -- The loop that puts a path: the tokens that are left of a name are those whose keys are still to be put, and their count comes last.
 -- Assumes nothing.
-use Prim.Native.Nat.{ℕ, _+_, _-_, _%_, _^_, _≤_, _<_}
+use Prim.Native.Nat.{ℕ, _+_, _%_, _^_, _≤_, _<_}
 use native.Mathlib.Omega.{arith}
 use mathlib.Core.Path.{_≡_, refl, sym, ap, subst, _∙_}
 use mathlib.Core.List.{List, [], _∷_, _++_}
@@ -11,6 +11,8 @@ use Rattle.fields.specs.Fields.{digits, number, numeric, counted}
 use Rattle.fields.specs.Places.{part}
 use Rattle.fields.specs.Writing.{patch, answered}
 use Rattle.fields.proofs.Filling.{Filling, filling-room, placing-start, placing-end, digits-one, digits-fit}
+use Rattle.fields.proofs.Lists.{empty-list}
+use Rattle.fields.proofs.Patches.{patch-none}
 use Rattle.names.specs.Name.{Token, Reading, tokens, stops, listed, before}
 use Rattle.names.specs.Steps.{stepAt, readFrom}
 use Rattle.names.specs.declared.Step.the-variants.{Token as AToken, End, Stops}
@@ -20,7 +22,7 @@ use Rattle.plans.specs.Plans.{step}
 use Rattle.planner.specs.Plan.{stepOf}
 use Rattle.planner.proofs.Leads.{Single}
 use Rattle.planning.specs.Put.{stepsOf, keyBytes, stepBytes, pathLay, pathBytes, StepRoom, Walkable}
-use Rattle.planning.proofs.Putting.{filling-put, put-nothing, put-before}
+use Rattle.planning.proofs.Putting.{filling-put, put-before}
 
 -- ---- the bytes of a path: its count, then its keys
 path-none : (us : List Token) → length us ≡ 0 → pathLay us ≡ []
@@ -158,15 +160,11 @@ module _ (name old out : List ℕ) (from at to n : ℕ) (p : Pathing name old ou
     unfolding answered manyLay
     pathing-none z =
         let c = all-put in
-        let r : p .walk .rest ≡ [] = length-zero (p .walk .rest) (omega arith) in
+        let r : p .walk .rest ≡ [] = empty-list (p .walk .rest) (omega arith) in
         let b : pathBytes name from ≡ [] = bytes-are ∙ path-none (p .walk .rest) (omega arith) in
         let s = p .size in
         let k : out ≡ patch old 1 [] = keys-put ∙ ap (λ us. patch old 1 (manyLay step (stepsOf us))) r in
-        ((sym (ap length b), omega arith), k ∙ put-nothing old 1 (omega arith) ∙ sym (ap (λ x. answered x old) b))
-      where
-        length-zero : (us : List Token) → length us ≡ 0 → us ≡ []
-        length-zero [] h = refl
-        length-zero (u ∷ us) h = absurd (omega arith)
+        ((sym (ap length b), omega arith), k ∙ patch-none old 1 ∙ sym (ap (λ x. answered x old) b))
 
     pub pathing-end : (out′ : List ℕ) → (n ≡ 0 → ⊥) → out′ ≡ patch out 0 (digits 1 (n % 256 ^ 1))
         → ((to ≡ length (pathBytes name from)) × (to ≤ 400)) × (out′ ≡ answered (pathBytes name from) old)

@@ -14,6 +14,7 @@ use Rattle.fields.specs.Text.{Text, lowered, same, earlier}
 use Rattle.fields.specs.Places.{part}
 use Rattle.fields.specs.Writing.{answered}
 use Rattle.fields.specs.declared.Part.{Part}
+use Rattle.fields.proofs.Patches.{answer-front}
 use Rattle.catalog.specs.Finding.{any}
 use Rattle.packing.specs.declared.Cost.{Cost}
 use Rattle.lists.specs.Lists.{listOf}
@@ -21,14 +22,13 @@ use Rattle.planner.specs.Lists.{keep}
 use Rattle.planner.specs.Tags.{isBarred}
 use Rattle.planner.specs.Candidates.{Group}
 use Rattle.planner.specs.Merging.{Pending, Given, Merged, startOf, spanOf, nameOf, readOf, isCovered, servedBy, mergedOf, merge, isCheap, isFree, weight, isBetter}
-use Rattle.merging.specs.Columns.{largestSize}
 use Rattle.candidates.specs.Columns.{Bunch, bunchName, bunchShape, groupOf}
+use Rattle.merging.specs.Columns.{largestSize}
 use Rattle.planning.specs.declared.Offer.{Offer}
 use Rattle.planning.specs.Tables.{namesIn, bunchAt, groupAt}
 use Rattle.planning.specs.Merges.{offerOf, Modest, Lookup}
 use Rattle.planning.specs.Choosing.{keyOf, runName, namePart, Tells, FreeTold, FirstTold, BetterTold, LeadTold}
 use Rattle.planning.proofs.Entries.{number-is, group-sound, name-is, key-is, name-short}
-use Rattle.fields.proofs.Patches.{answer-front}
 
 -- ---- a merge that is there
 pub merge-is : (g : Given) (rs : List Pending) (k : Group) (mm : Merged) → merge g rs k ≡ some mm → (2 ≤ length (keep (isCovered k) rs)) × (mm ≡ mergedOf g k rs (keep (isCovered k) rs))
@@ -39,6 +39,15 @@ merge-is g rs k mm e = go (leb 2 (length (keep (isCovered k) rs))) refl e
         → (2 ≤ length (keep (isCovered k) rs)) × (mm ≡ mergedOf g k rs (keep (isCovered k) rs))
     go true q r = let w : mergedOf g k rs (keep (isCovered k) rs) ≡ mm = cc in (leb-true 2 (length (keep (isCovered k) rs)) q, sym w)
     go false q r = let z : _≡_ {A = ℕ} 0 1 = cc in absurd (omega arith)
+
+-- it saves a read
+pub merge-saves : (g : Given) (rs : List Pending) (k : Group) (mm : Merged) → merge g rs k ≡ some mm → 0 < mm .saved
+unfolding mergedOf
+merge-saves g rs k mm e =
+    let w = merge-is g rs k mm e in
+    let s = ap (λ (x : Merged). x .saved) (w .1) in
+    let t = w .0 in
+    omega arith
 
 -- ---- what an offer tells
 module _ (g : Given) (bs : List Bunch) (rs : List Pending) (m : Offer) (mm : Merged) (t : Tells g bs rs m mm) where

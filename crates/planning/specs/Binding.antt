@@ -2,9 +2,7 @@
 -- Assumes nothing: these are definitions.
 use Prim.Native.Nat.{ℕ, _-_, _≤_, _<_}
 use mathlib.Core.Path.{_≡_}
-use mathlib.Core.Bool.{cond}
-use mathlib.Core.List.{List, [], _∷_, map}
-use lib.Dec.{eqb}
+use mathlib.Core.List.{List, map}
 use lib.ListN.{length, take}
 use Rattle.packing.specs.declared.Cost.{Cost}
 use Rattle.packing.specs.Packing.{empty}
@@ -13,6 +11,7 @@ use Rattle.planner.specs.Lists.{given}
 use Rattle.planner.specs.Candidates.{Group}
 use Rattle.planner.specs.Merging.{Pending, Given, merge, boundTogether}
 use Rattle.candidates.specs.Columns.{Bunch, groupOf}
+use Rattle.merging.specs.Told.{ofKind}
 use Rattle.planning.specs.Tables.{namesIn, groupAt, Grouped, Indexed, Reading, Kinded}
 use Rattle.planning.specs.Merges.{BoundTold}
 
@@ -27,19 +26,13 @@ OneBound j numbers weights asks stops serves indexes members lens kinds requests
     → Grouped g bs numbers weights asks stops serves → Indexed g indexes → Reading rs members lens requests replies count → Kinded g bs rs kinds count → j < length bs
     → Reading (afterMerge g rs (groupAt g bs j)) members′ lens′ requests′ replies′ r × Kinded g bs (afterMerge g rs (groupAt g bs j)) kinds′ r
 
--- the groups whose level this is, by a column of levels
-unfoldable pub leveled : ℕ → List ℕ → List Bunch → List Bunch
-leveled l [] bs = []
-leveled l (n ∷ ns) [] = []
-leveled l (n ∷ ns) (b ∷ bs) = let later = leveled l ns bs in cond (eqb n l) (b ∷ later) later
-
 -- the merges of the structs of a level
 abbrev pub LevelBound : ℕ → (levels numbers weights asks stops serves indexes : List ℕ) → ℕ → (members lens kinds requests replies : List ℕ) → ℕ
     → (members′ lens′ kinds′ requests′ replies′ : List ℕ) → ℕ → Type 0
 LevelBound level levels numbers weights asks stops serves indexes structs members lens kinds requests replies count members′ lens′ kinds′ requests′ replies′ r =
     (g : Given) (bs : List Bunch) (rs : List Pending)
     → Grouped g bs numbers weights asks stops serves → Indexed g indexes → structs ≤ length bs → Reading rs members lens requests replies count → Kinded g bs rs kinds count
-    → let ks = map (groupOf (namesIn g)) (leveled level (take structs levels) (take structs bs)) in
+    → let ks = map (groupOf (namesIn g)) (ofKind level (take structs levels) (take structs bs)) in
     Reading (boundTogether g ks rs) members′ lens′ requests′ replies′ r × Kinded g bs (boundTogether g ks rs) kinds′ r
 
 -- the merges of all levels; `room` is what a packet has for one reply

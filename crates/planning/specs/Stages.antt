@@ -17,10 +17,10 @@ use Rattle.packing.specs.Packing.{standard}
 use Rattle.packing.specs.Tables.{sizesOf}
 use Rattle.packing.specs.Told.{started, stepsOf}
 use Rattle.lists.specs.Lists.{tagList, listOf, listVerdict, longestList, layout as listLayout}
-use Rattle.planner.specs.Rows.{rowsFrom}
+use Rattle.planner.specs.Rows.{rowsFrom, isSet}
 use Rattle.planner.specs.Merging.{Given, tagAt}
 use Rattle.planner.specs.Plan.{plainReads, startReads, finalReads, givenOf}
-use Rattle.candidates.specs.Columns.{Bunch, Elements, tagName, isOne, rowsIn, elementsIn, wholesIn, runsIn, endsFrom, bunchName}
+use Rattle.candidates.specs.Columns.{Bunch, Elements, tagName, rowsIn, elementsIn, wholesIn, runsIn, endsFrom, bunchName}
 use Rattle.candidates.proofs.Told.{Listing}
 use Rattle.candidates.proofs.RunsOf.{Lies}
 use Rattle.merging.specs.Columns.{closed}
@@ -80,7 +80,7 @@ pub record Viewed (catalog list places indexes requests replies : List ℕ) (tag
 
 -- what the groups are made of: the names and first spellings of the tags, and the elements among them
 pub record Pieced (catalog list places firsts widths indexes arrays : List ℕ) : Type 0 where
-  pub listing : Listing (catalogOf catalog) (listOf list) (tagName list places) (isOne firsts)
+  pub listing : Listing (catalogOf catalog) (listOf list) (tagName list places) (isSet firsts)
   pub elements : Elemental (planningOf catalog list) (elementsIn widths indexes arrays)
 
 -- the rows of the structs above the tags

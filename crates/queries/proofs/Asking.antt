@@ -20,36 +20,36 @@ use Rattle.fields.specs.declared.Refusal.the-variants.{OverLimit}
 use Rattle.fields.specs.declared.Checked.{Checked}
 use Rattle.fields.specs.declared.Checked.the-variants.{Good, Refused}
 use Rattle.fields.proofs.Chains.{told-bad, told-good}
-use Rattle.names.specs.Listing.{longestName}
+use Rattle.fields.proofs.Lawful.{first-fine}
+use Rattle.fields.proofs.Verdicts.{told-fine, told-refused}
+use Rattle.names.specs.Listing.{longestName, nameCheck}
 use Rattle.catalog.specs.Catalog.{Node, fieldsVerdict}
 use Rattle.catalog.specs.Alike.{alikeVerdict}
 use Rattle.catalog.specs.Nesting.{nestingVerdict}
 use Rattle.catalog.specs.Check.{catalogVerdict}
-use Rattle.fields.proofs.Lawful.{first-fine}
 use Rattle.catalog.specs.Catalog.{catalogOf}
 use Rattle.nodes.specs.Reading.{foundIn, nodeRead}
 use Rattle.nodes.specs.Placed.{foundTold}
-use Rattle.nodes.proofs.Values.{read-node}
-use Rattle.lookup.specs.Placed.{lookedPlaceIn, infoPlace, lookedPlace}
 use Rattle.nodes.specs.declared.Node.{Node as Read}
 use Rattle.nodes.specs.declared.Found.{Found as Place}
 use Rattle.nodes.specs.declared.Found.the-variants.{At, Nowhere}
+use Rattle.nodes.proofs.Values.{read-node}
+use Rattle.lookup.specs.Placed.{lookedPlaceIn, infoPlace, lookedPlace}
 use Rattle.lookup.specs.Info.{infoOf, lookedUp, structSize}
-use Rattle.sizes.specs.Sizes.{Size, readSize}
-use Rattle.sizes.specs.Told.{largestCount, boundedSize}
-use Rattle.sizes.specs.declared.Size.{Size as Told}
 use Rattle.lookup.specs.Told.{bytesTold}
 use Rattle.lookup.specs.declared.Bytes.{Bytes as Told-bytes}
 use Rattle.lookup.specs.declared.Bytes.the-variants.{Known as KnownBytes, Unknown as UnknownBytes}
+use Rattle.sizes.specs.Sizes.{Size, readSize}
+use Rattle.sizes.specs.Told.{largestCount, boundedSize}
+use Rattle.sizes.specs.declared.Size.{Size as Told}
+use Rattle.sizes.proofs.Counts.{size-is}
 use Rattle.structs.specs.Structs.{structTold}
 use Rattle.structs.proofs.Accepted.{struct-is}
 use Rattle.queries.specs.declared.WholeSize.the-variants.{Is, Unknown, Refused as WholeRefused}
-use Rattle.queries.specs.Queries.{wholeOf, measuredOf, lengthVerdict, nameVerdict, queryVerdict, found, answerOf, shownAs, lookedIn, blankNode, shownAt, lookedAt}
+use Rattle.queries.specs.Queries.{wholeOf, measuredOf, nameVerdict, queryVerdict, found, answerOf, shownAs, lookedIn, blankNode, shownAt, lookedAt}
 use Rattle.queries.specs.declared.Looked.{Looked}
 use Rattle.queries.specs.declared.Measured.the-variants.{Bytes, Refused as SizeRefused}
-use Rattle.sizes.proofs.Counts.{size-is}
 use Rattle.queries.specs.declared.Outcome.the-variants.{Found, NotThere, Refused as Refuses}
-use Rattle.fields.proofs.Verdicts.{told-fine, told-refused}
 
 -- ---- a name given by itself
 module _ (s : Text) where
@@ -62,16 +62,16 @@ module _ (s : Text) where
   name-byte r e = sym (told-bad (textBytes s 0) _ (0 + length (take (length s) (drop 0 s))) (length s) r (sym (all-bytes (0 + length (take (length s) (drop 0 s)))) ∙ e))
 
   module _ (q : ℕ) (e : told (textBytes (take (length s) (drop 0 s)) 0) (0 + length (take (length s) (drop 0 s))) ≡ Good q) where
-    behind-bytes : told (nameVerdict s) (length s) ≡ told (first (lengthVerdict s) (indexCheck largestCount s 0)) (length s)
+    behind-bytes : told (nameVerdict s) (length s) ≡ told (first (nameCheck s) (indexCheck largestCount s 0)) (length s)
     unfolding nameVerdict
     behind-bytes = told-good (textBytes s 0) _ (0 + length (take (length s) (drop 0 s))) (length s) q (sym (all-bytes (0 + length (take (length s) (drop 0 s)))) ∙ e) .0
 
     pub name-long : longestName < length s → Refused (OverLimit 0) ≡ told (nameVerdict s) (length s)
-    unfolding lengthVerdict told first
+    unfolding nameCheck told first
     name-long h = sym (behind-bytes ∙ rw (lt-ltb longestName (length s) h))
 
     pub name-indexes : (r : Checked) → length s ≤ longestName → r ≡ told (indexCheck largestCount (drop 0 s) 0) (0 + length (drop 0 s)) → r ≡ told (nameVerdict s) (length s)
-    unfolding lengthVerdict first
+    unfolding nameCheck first
     name-indexes r h d = let z : 0 + length s ≡ length s = omega arith in d ∙ ap (told (indexCheck largestCount s 0)) z ∙ sym (behind-bytes ∙ rw (le-ltb longestName (length s) h))
 
 -- ---- a catalog file
@@ -103,15 +103,15 @@ module _ (c n : List ℕ) where
 
 -- ---- what a check told
 -- a name that was not refused is not too long, and has no index or count over the limit
-name-fine : (c n : List ℕ) (q p : ℕ) → told (queryVerdict c n) q ≡ Good p → (lengthVerdict n ≡ fine) × (indexCheck largestCount n 0 ≡ fine)
+name-fine : (c n : List ℕ) (q p : ℕ) → told (queryVerdict c n) q ≡ Good p → (nameCheck n ≡ fine) × (indexCheck largestCount n 0 ≡ fine)
 unfolding queryVerdict nameVerdict
 name-fine c n q p e =
     let a = first-fine (catalogVerdict c) (nameVerdict n) (told-fine (queryVerdict c n) q p e) in
-    let b = first-fine (textBytes n 0) (first (lengthVerdict n) (indexCheck largestCount n 0)) (a .1) in
-    first-fine (lengthVerdict n) (indexCheck largestCount n 0) (b .1)
+    let b = first-fine (textBytes n 0) (first (nameCheck n) (indexCheck largestCount n 0)) (a .1) in
+    first-fine (nameCheck n) (indexCheck largestCount n 0) (b .1)
 
 pub name-short : (c n : List ℕ) (q p : ℕ) → told (queryVerdict c n) q ≡ Good p → length n ≤ longestName
-unfolding lengthVerdict
+unfolding nameCheck
 name-short c n q p e = go (ltb longestName (length n)) refl (name-fine c n q p e .0)
   where
     go : (t : Bool) → ltb longestName (length n) ≡ t → cond t (bad (OverLimit 0)) fine ≡ fine → length n ≤ longestName

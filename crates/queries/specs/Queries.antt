@@ -1,28 +1,24 @@
 -- What a caller asks of a catalog file with a name: the file is checked, then the name, then the answer is that of the catalog.
 -- Assumes nothing: these are definitions.
 use Prim.Native.Nat.{ℕ}
-use mathlib.Core.Bool.{cond}
 use mathlib.Core.List.{List, [], _∷_}
 use mathlib.Core.Option.{Option, none, some}
-use lib.Dec.{ltb}
-use lib.ListN.{length}
 use Rattle.fields.specs.Text.{Text}
 use Rattle.fields.specs.Format.{Verdict, fine, bad, first}
 use Rattle.fields.specs.Fields.{textBytes, indexCheck}
 use Rattle.fields.specs.declared.Refusal.{Refusal}
-use Rattle.fields.specs.declared.Refusal.the-variants.{OverLimit}
-use Rattle.names.specs.Listing.{longestName}
+use Rattle.names.specs.Listing.{nameCheck}
 use Rattle.catalog.specs.Catalog.{Node}
 use Rattle.catalog.specs.Check.{catalogVerdict}
+use Rattle.catalog.specs.declared.Kind.the-variants.{Atomic}
 use Rattle.nodes.specs.Reading.{nodeIn, nodeRead}
 use Rattle.nodes.specs.Placed.{foundTold}
-use Rattle.sizes.specs.Sizes.{Size}
-use Rattle.sizes.specs.Told.{largestCount, sizeTold}
-use Rattle.catalog.specs.declared.Kind.the-variants.{Atomic}
 use Rattle.nodes.specs.declared.Maybe.the-variants.{Missing}
 use Rattle.nodes.specs.declared.Node.{Node as Read}
 use Rattle.nodes.specs.declared.Found.{Found as Place}
 use Rattle.nodes.specs.declared.Found.the-variants.{At, Nowhere}
+use Rattle.sizes.specs.Sizes.{Size}
+use Rattle.sizes.specs.Told.{largestCount, sizeTold}
 use Rattle.queries.specs.declared.Looked.{Looked}
 use Rattle.queries.specs.declared.Outcome.{Outcome}
 use Rattle.queries.specs.declared.Outcome.the-variants.{Found, NotThere, Refused}
@@ -31,13 +27,9 @@ use Rattle.queries.specs.declared.WholeSize.the-variants.{Is, Unknown, R
 use Rattle.queries.specs.declared.Measured.{Measured}
 use Rattle.queries.specs.declared.Measured.the-variants.{Bytes, Refused as SizeRefused}
 
--- 01, table: 5 of a name that is given by itself
-unfoldable pub lengthVerdict : Text → Verdict
-lengthVerdict s = cond (ltb longestName (length s)) (bad (OverLimit 0)) fine
-
 -- 01, table: 4, 5 and 8 of a name that is given by itself; places are counted from its first byte
 unfoldable pub nameVerdict : Text → Verdict
-nameVerdict s = first (textBytes s 0) (first (lengthVerdict s) (indexCheck largestCount s 0))
+nameVerdict s = first (textBytes s 0) (first (nameCheck s) (indexCheck largestCount s 0))
 
 -- 01: "Inputs in the order catalog, ..": the catalog, then the name
 unfoldable pub queryVerdict : List ℕ → Text → Verdict

@@ -13,6 +13,7 @@ use Rattle.fields.proofs.Spelled.{length-digits}
 use Rattle.fields.proofs.Patches.{patch-patch}
 use Rattle.fields.proofs.Filling.{digits-one}
 use Rattle.fields.proofs.Reading.{many-value-none, many-value-more}
+use Rattle.fields.proofs.Putting.{Putting, putting-same, putting-room, putting-next, putting-end}
 use Rattle.plans.specs.Plans.{member}
 use Rattle.plans.proofs.Round.{lawful-member}
 use Rattle.results.specs.Sorting.{Entry, cut, retry, received, isRetry, anyRetry}
@@ -20,7 +21,6 @@ use Rattle.results.specs.Told.{shown, shownBytes, laid, shownRetry, entr
 use Rattle.results.specs.declared.sort.Shown.{Shown}
 use Rattle.results.specs.declared.sort.Shown.the-variants.{Cut, Retry, Received}
 use Rattle.results.specs.declared.sort.Turn.{Turn}
-use Rattle.results.proofs.Putting.{Putting, putting-same, putting-room, putting-next, putting-end}
 
 -- ---- one entry
 pub size-cut : (e : Shown) (q : ℕ) → e ≡ Cut q → (5 ≡ length (shownBytes e)) × (5 ≤ 5)

@@ -6,7 +6,6 @@ use mathlib.Core.Path.{_≡_, refl}
 use mathlib.Core.List.{List, [], _∷_, _++_}
 use mathlib.Core.Option.{none, some}
 use lib.ListN.{set}
-use Rattle.repeats.specs.Repeats.{isAgain}
 use Rattle.fields.specs.Text.{bytes, between, printable, lower, lowered, same, alike}
 use Rattle.fields.specs.Decimal.{isDigit, valueFrom, leadingDigits}
 use Rattle.fields.specs.Options.{andThen, orElse}
@@ -17,16 +16,17 @@ use Rattle.fields.specs.Places.{valueAt, placeAt, placesFrom}
 use Rattle.fields.specs.declared.Refusal.the-variants.{OutOfFile, NotAllowed, CountsDiffer}
 use Rattle.plans.specs.Plans.{named, indexed, Read, stepByte, namedText, indexedNumber, firstNumber, afterByte, step, readsOf, planVerdict}
 use Rattle.plans.specs.Plans.{member as planMember, read as planRead, layout as planFile}
+use Rattle.repeats.specs.Repeats.{isAgain}
 use Rattle.values.specs.Value.{Value, leaf, array, struct, noItem, item, noMember, member}
 use Rattle.values.specs.File.{runsPast, inside, enclosed, bytesLeft, itemList, itemsOf, memberList, membersOf, kindByte, leafBytes, arrayItems, structMembers, stringBytes, items, members, afterKind, content, tooDeep, value}
 use Rattle.values.specs.Alike.{pastValue, kindAt, countPlace, itemsAlike, membersAlike, kindAlike, alikeWithin}
 use Rattle.values.specs.Dig.{countAt, firstPlace, itemPlaces, namePlaces, findName, memberPlace, itemPlace, stepPlace, digPlace}
 use Rattle.results.specs.Results.{got, failed, neither, statusByte, nothing, gotValue, ifFailed, ifNeither, afterStatus, result, resultsOf, fieldsVerdict, resultAlike, resultsAlike, resultsVerdict, layout}
-use Rattle.results.specs.Sorting.{replyBy, repliesFrom, repliesOf, cutOr, cutFrom, entryOf, hasNoPath, isPlain, entriesFrom, allRetry, otherEntries, readEntries, sortedEntries, isRetry, anyRetry, isError, stands, isAdded, failedFrom, sortedOf, entryByte, cutPlace, ifRetry, ifReceived, afterEntry, entry, sorted, sortedFile, sortVerdict}
+use Rattle.results.specs.Sorting.{replyBy, repliesFrom, repliesOf, cutOr, cutFrom, entryOf, hasNoPath, isPlain, entriesFrom, allRetry, otherEntries, readEntries, sortedEntries, isRetry, anyRetry, isError, isAdded, failedFrom, sortedOf, entryByte, cutPlace, ifRetry, ifReceived, afterEntry, entry, sorted, sortedFile, sortVerdict}
 
 -- opens every definition that the check, the reading, the layout and the sorting need
 computing : Unit {0}
-unfolding between printable lower lowered same alike isDigit valueFrom leadingDigits andThen orElse first joined onward _then_ leading mapped given manyRead manyLay many heldRead heldLay held flagOf among spelled digits whole limited numberCheck numeric number choice textBytes textCheck textOf textRest textPast textVerdict text opensIndex digitsAbove indexCheck indexedText counted optional openingCheck endingCheck fieldsCheck fileCheck fileOf fileLay valueAt placeAt placesFrom stepByte namedText indexedNumber firstNumber afterByte step planMember planRead readsOf planVerdict planFile runsPast inside enclosed bytesLeft itemList itemsOf memberList membersOf kindByte leafBytes arrayItems structMembers stringBytes items members afterKind content tooDeep value isAgain pastValue kindAt countPlace itemsAlike membersAlike kindAlike alikeWithin countAt firstPlace itemPlaces namePlaces findName memberPlace itemPlace stepPlace digPlace statusByte nothing gotValue ifFailed ifNeither afterStatus result resultsOf fieldsVerdict resultAlike resultsAlike resultsVerdict layout replyBy repliesFrom repliesOf cutOr cutFrom entryOf hasNoPath isPlain entriesFrom allRetry otherEntries readEntries sortedEntries isRetry anyRetry isError stands isAdded failedFrom sortedOf entryByte cutPlace ifRetry ifReceived afterEntry entry sorted sortedFile countsVerdict sortVerdict
+unfolding between printable lower lowered same alike isDigit valueFrom leadingDigits andThen orElse first joined onward _then_ leading mapped given manyRead manyLay many heldRead heldLay held flagOf among spelled digits whole limited numberCheck numeric number choice textBytes textCheck textOf textRest textPast textVerdict text opensIndex digitsAbove indexCheck indexedText counted optional openingCheck endingCheck fieldsCheck fileCheck fileOf fileLay valueAt placeAt placesFrom stepByte namedText indexedNumber firstNumber afterByte step planMember planRead readsOf planVerdict planFile runsPast inside enclosed bytesLeft itemList itemsOf memberList membersOf kindByte leafBytes arrayItems structMembers stringBytes items members afterKind content tooDeep value isAgain pastValue kindAt countPlace itemsAlike membersAlike kindAlike alikeWithin countAt firstPlace itemPlaces namePlaces findName memberPlace itemPlace stepPlace digPlace statusByte nothing gotValue ifFailed ifNeither afterStatus result resultsOf fieldsVerdict resultAlike resultsAlike resultsVerdict layout replyBy repliesFrom repliesOf cutOr cutFrom entryOf hasNoPath isPlain entriesFrom allRetry otherEntries readEntries sortedEntries isRetry anyRetry isError isAdded failedFrom sortedOf entryByte cutPlace ifRetry ifReceived afterEntry entry sorted sortedFile countsVerdict sortVerdict
 computing = tt
 
 -- ---- reads

@@ -18,14 +18,15 @@ use Rattle.fields.specs.Writing.{patch}
 use Rattle.fields.proofs.Lists.{drop-next, drop-past}
 use Rattle.fields.proofs.Spelled.{length-digits}
 use Rattle.fields.proofs.Filling.{digits-fit}
+use Rattle.fields.proofs.Putting.{Putting, putting-same, putting-room, putting-next, putting-end, putting-start}
 use Rattle.plans.specs.Plans.{Read, read}
 use Rattle.plans.proofs.Access.{read-name}
+use Rattle.repeats.specs.Repeats.{isAgain}
 use Rattle.results.specs.Results.{result}
-use Rattle.results.specs.Sorting.{received, replyBy, isPlain, isRetry, anyRetry, isError, stands, isAdded, otherEntries, readEntries}
+use Rattle.results.specs.Sorting.{received, replyBy, isPlain, isRetry, anyRetry, isError, isAdded, otherEntries, readEntries}
 use Rattle.results.specs.Told.{isLost, turnEntries, replyAt, Turned, pairCount, fails, namesAt, failedAt, allFailed}
 use Rattle.results.specs.declared.sort.Turn.{Turn}
 use Rattle.results.proofs.Turning.{turn-reply, turn-entries}
-use Rattle.results.proofs.Putting.{Putting, putting-same, putting-room, putting-next, putting-end, putting-start}
 
 -- ---- names
 -- the parts of the plan that were compared are the names of two reads
@@ -49,20 +50,20 @@ module _ (plan : List ℕ) where
 
   -- `j` places are left to compare
   module _ (places : List ℕ) (j p : ℕ) (h : 0 < j) (r : Bool) (e : r ≡ same (valueAt read plan p .name) (valueAt read plan (getD places (j - 1) 0) .name)) where
-    known-next : stands (valueAt read plan p .name) (namesAt plan places j) ≡ cond r true (stands (valueAt read plan p .name) (namesAt plan places (j - 1)))
-    unfolding namesAt stands
+    known-next : isAgain (valueAt read plan p .name) (namesAt plan places j) ≡ cond r true (isAgain (valueAt read plan p .name) (namesAt plan places (j - 1)))
+    unfolding namesAt isAgain
     known-next =
         let z : j ≡ suc (j - 1) = omega arith in
-        ap (λ n. stands (valueAt read plan p .name) (namesAt plan places n)) z ∙ ap (λ b. cond b true (stands (valueAt read plan p .name) (namesAt plan places (j - 1)))) (sym e)
+        ap (λ n. isAgain (valueAt read plan p .name) (namesAt plan places n)) z ∙ ap (λ b. cond b true (isAgain (valueAt read plan p .name) (namesAt plan places (j - 1)))) (sym e)
 
-    pub known-here : r ≡ true → true ≡ stands (valueAt read plan p .name) (namesAt plan places j)
+    pub known-here : r ≡ true → true ≡ isAgain (valueAt read plan p .name) (namesAt plan places j)
     known-here y = rw (known-next, y)
 
-    pub known-later : r ≡ false → stands (valueAt read plan p .name) (namesAt plan places (j - 1)) ≡ stands (valueAt read plan p .name) (namesAt plan places j)
+    pub known-later : r ≡ false → isAgain (valueAt read plan p .name) (namesAt plan places (j - 1)) ≡ isAgain (valueAt read plan p .name) (namesAt plan places j)
     known-later y = rw (known-next, y)
 
-  pub known-none : (places : List ℕ) (j : ℕ) (t : Text) → j ≤ 0 → false ≡ stands t (namesAt plan places j)
-  unfolding namesAt stands
+  pub known-none : (places : List ℕ) (j : ℕ) (t : Text) → j ≤ 0 → false ≡ isAgain t (namesAt plan places j)
+  unfolding namesAt isAgain
   known-none places zero t h = refl
   known-none places (suc j) t h = absurd (omega arith)
 
@@ -76,7 +77,7 @@ error-by (suc (suc k)) at = sym (ne-eqb (suc (suc k)) 1 (λ z. omega arith))
 module _ (s : List ℕ) (names : List Text) where
   -- whether a read is added, by whether it is lost, and whether an entry is to be read again
   added : Bool → Bool → Text → Bool
-  added lost again t = cond lost true (cond again (cond (stands t names) false true) false)
+  added lost again t = cond lost true (cond again (cond (isAgain t names) false true) false)
 
   fails-by : (k at : ℕ) (r : Read) → fails s names r (replyBy k at) ≡ added (isLost k (r .members)) (anyRetry (readEntries s (replyBy k at) (r .members))) (r .name)
   unfolding fails isLost readEntries isAdded added anyRetry isRetry
@@ -106,7 +107,7 @@ module _ (s : List ℕ) (names : List Text) where
       unfolding added
       fails-never y = rw (fails-turn, ← d, y, e)
 
-      module _ (y : r ≡ true) (b : Bool) (g : b ≡ stands (valueAt read plan p .name) names) where
+      module _ (y : r ≡ true) (b : Bool) (g : b ≡ isAgain (valueAt read plan p .name) names) where
         pub fails-known : b ≡ true → false ≡ fails s names (valueAt read plan p) (replyAt s q)
         unfolding added
         fails-known z = rw (fails-turn, ← d, ← g, y, z, e)

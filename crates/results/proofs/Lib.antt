@@ -2,7 +2,6 @@ pub mod Examples
 pub mod Statuses
 pub mod Members
 pub mod Showing
-pub mod Putting
 pub mod Entries
 pub mod Turning
 pub mod Failing

@@ -1,12 +1,12 @@
 -- The check of a result is that of its status byte and of what follows it, and it ends where that does.
 -- What is left behind a result is the file from the place told on, so rows of them are read one behind the other.
 -- Assumes nothing.
-use Prim.Native.Nat.{ℕ, zero, suc, _+_, _-_}
+use Prim.Native.Nat.{ℕ, zero, suc, _+_}
 use mathlib.Core.Path.{_≡_, refl, sym, ap, ap₂, _∙_}
 use mathlib.Core.List.{List}
 use native.Mathlib.Omega.{arith}
 use lib.ListN.{length, take, drop}
-use Rattle.fields.specs.Format.{Format, joined, onward, leading, given, among, manyRead, many}
+use Rattle.fields.specs.Format.{joined, onward, given, among, manyRead, many}
 use Rattle.fields.specs.Fields.{number, choice, whole, limited, counted}
 use Rattle.fields.specs.Files.{openingCheck, fieldsCheck, fileCheck}
 use Rattle.fields.specs.Places.{told, outcome, checkAt, placeAt}
@@ -20,7 +20,7 @@ use Rattle.fields.proofs.Chains.{told-bad, told-good, leading-bad, leading-good
 use Rattle.fields.proofs.Reading.{leading-place, choice-value, choice-place}
 use Rattle.values.specs.File.{inside, enclosed, value}
 use Rattle.values.specs.Told.{closedAt}
-use Rattle.values.proofs.Along.{Along, along-value}
+use Rattle.values.proofs.Along.{Along, along-value, along-leading}
 use Rattle.values.proofs.Closed.{closed-is}
 use Rattle.results.specs.Results.{nothing, statusByte, afterStatus, result, results, fieldsVerdict}
 
@@ -37,13 +37,9 @@ along-after zero = along-value 40
 along-after (suc zero) = λ s i. refl
 along-after (suc (suc n)) = λ s i. refl
 
-along-led : {A B : Type 0} (f : Format A) (F : Lawful f) (key : B → A) (g : A → Format B) → ((a : A) → Along (g a)) → Along (leading f key g)
-unfolding leading onward joined
-along-led f F key g G s i = rw (F .along s i) (G (f .read (drop i s) i .value) s (f .read (drop i s) i .place))
-
 pub along-result : Along result
 unfolding result
-along-result = along-led (choice 2) lawful-status statusByte afterStatus along-after
+along-result = along-leading (choice 2) lawful-status statusByte afterStatus along-after
 
 along-row : (n : ℕ) → Along (many result n)
 unfolding many manyRead onward joined given
@@ -52,7 +48,7 @@ along-row (suc n) s i = rw (along-result s i) (along-row n s (result .read (drop
 
 pub along-results : Along results
 unfolding counted
-along-results = along-led (number 2 65535) lawful-count length (many result) along-row
+along-results = along-leading (number 2 65535) lawful-count length (many result) along-row
 
 -- ---- the check of a result
 module _ (s : List ℕ) (p : ℕ) where

@@ -15,13 +15,13 @@ use Rattle.fields.specs.Fields.{number}
 use Rattle.fields.specs.Places.{valueAt, placeAt}
 use Rattle.fields.specs.Writing.{patch}
 use Rattle.fields.proofs.Rows.{values-length}
+use Rattle.fields.proofs.Putting.{Putting, putting-same, putting-room, putting-next, putting-end}
 use Rattle.plans.specs.Plans.{Step, Member, member, read}
 use Rattle.plans.proofs.Round.{lawful-member}
 use Rattle.results.specs.Results.{result}
 use Rattle.results.specs.Sorting.{Entry, received, retry, Reply, replyBy, entryOf, isPlain, hasNoPath, entriesFrom, allRetry, otherEntries, readEntries}
 use Rattle.results.specs.Told.{shown, shownBytes, laid, isLost, entryBy, entriesBy, turnEntries, replyAt, Turned, pairCount, entriesAt, allEntries}
 use Rattle.results.specs.declared.sort.Turn.{Turn}
-use Rattle.results.proofs.Putting.{Putting, putting-same, putting-room, putting-next, putting-end}
 
 -- ---- the entries of one read
 module _ (s : List ℕ) (x : Reply) where

@@ -6,12 +6,13 @@ use mathlib.Core.Bool.{Bool, true, false, cond}
 use mathlib.Core.List.{List, [], _∷_, _++_}
 use mathlib.Core.Option.{Option, none, some}
 use lib.ListN.{length}
-use Rattle.fields.specs.Text.{Text, same}
+use Rattle.fields.specs.Text.{Text}
 use Rattle.fields.specs.Format.{Verdict, first, Format, _then_, leading, mapped, among}
 use Rattle.fields.specs.Fields.{number, choice, counted}
 use Rattle.fields.specs.Files.{fileLay, countsVerdict}
 use Rattle.fields.specs.Places.{valueAt, placeAt}
 use Rattle.plans.specs.Plans.{Step, Member, Read, readsOf, planVerdict}
+use Rattle.repeats.specs.Repeats.{isAgain}
 use Rattle.values.specs.Dig.{digPlace}
 use Rattle.results.specs.Results.{nothing, result, resultsOf, resultsVerdict}
 
@@ -112,14 +113,9 @@ isError (valueIn q) = false
 isError inError = true
 isError empty = false
 
--- whether a name stands among others
-unfoldable pub stands : Text → List Text → Bool
-stands t [] = false
-stands t (u ∷ us) = let later = stands t us in cond (same t u) true later
-
 -- 01: a read in error "is always added; one failed by a cut is not added when its name already stands there"
 unfoldable pub isAdded : List Text → Text → Reply → List Entry → Bool
-isAdded names t x es = cond (isError x) true (cond (anyRetry es) (cond (stands t names) false true) false)
+isAdded names t x es = cond (isError x) true (cond (anyRetry es) (cond (isAgain t names) false true) false)
 
 -- the positions of failed reads, from position `i` on; `names` are those of the reads that failed before
 unfoldable pub failedFrom : List ℕ → ℕ → List Text → List Read → List Reply → List ℕ

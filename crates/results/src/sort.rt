@@ -30,7 +30,8 @@ ghost use Rattle.fields.specs.Fields.{number};
 ghost use Rattle.fields.specs.Places.{valueAt, told};
 ghost use Rattle.fields.specs.Writing.{patch, writing, buffer};
 ghost use Rattle.plans.specs.Plans.{member, read};
-ghost use Rattle.results.specs.Sorting.{anyRetry, stands, sortedFile, sortVerdict};
+ghost use Rattle.repeats.specs.Repeats.{isAgain};
+ghost use Rattle.results.specs.Sorting.{anyRetry, sortedFile, sortVerdict};
 ghost use Rattle.results.specs.Told.{shown, shownBytes, laid, shownRetry, hasPath, isLost, turnEntry, turnEntries, replyAt, Turned, pairCount, allEntries, fails, namesAt, allFailed};
 
 // What a member's cell shows: a part of the results file, that it is to be read again, or the result as received.
@@ -287,7 +288,7 @@ fn same_name(plan: &[u8], p: usize, q: usize) -> bool
 // Whether the name of the read at a place stands among those of the first k places of a table.
 fn is_known(plan: &[u8], places: &[usize], k: usize, p: usize) -> bool
     requires { ⌜ k ≤ length (now places) ⌝ }
-    ensures { λ r. ⌜ r ≡ stands (valueAt read (now (plan .entry)) p .name) (namesAt (now (plan .entry)) (now (places .entry)) k) ⌝ }
+    ensures { λ r. ⌜ r ≡ isAgain (valueAt read (now (plan .entry)) p .name) (namesAt (now (plan .entry)) (now (places .entry)) k) ⌝ }
 {
     let mut j = k;
     while 0 < j {

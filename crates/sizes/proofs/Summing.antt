@@ -15,6 +15,7 @@ use Rattle.fields.specs.Decimal.{numeralOf}
 use Rattle.fields.specs.Places.{scan, part, numberTold}
 use Rattle.fields.specs.declared.Numeral.the-variants.{Value, Missing}
 use Rattle.fields.proofs.Decimals.{missing-is, value-is}
+use Rattle.fields.proofs.Lists.{empty-list}
 use Rattle.names.specs.Pieces.{allOf, isNot}
 use Rattle.names.specs.Name.{Token, Reading, tokens, stops, indexesOf, indexKey, laterToken, before, bracket}
 use Rattle.names.specs.Steps.{indexesIn, stepAt, readFrom}
@@ -98,10 +99,6 @@ some-indexes u e =
     (allOf (map numeralOf (laterParts (eqb 44) (drop (scan (isNot 44) u 0) u))))
     (sym (ap (λ ps. allOf (map numeralOf ps)) (part-at 44 u 0 (scan (isNot 44) u 0) (omega arith) refl .are)) ∙ e)
 
-none-left : (is : List ℕ) → length is ≡ 0 → is ≡ []
-none-left [] e = refl
-none-left (i ∷ is) e = let y : ⊥ = omega arith in absurd y
-
 pub cost-indexes : (is : List ℕ) → keySize (indexKey is) ≡ indexSizes is
 unfolding keySize indexKey indexSizes
 cost-indexes [] = refl
@@ -125,7 +122,7 @@ module _ (p : Text) (n last : ℕ) (t : TokenText p n) (q : last ≡ length p - 
           (y ∙ sym (ap keySize d) ∙ sym (ap pieceCost (t .read)), omega arith)
       go (indexes u is b c d) =
           let y : length is ≡ 0 = sym (ap length (key-indexes is)) ∙ sym (ap (λ x. length (indexesIn x)) d) ∙ t .count ∙ z in
-          absurd (some-indexes u (c ∙ ap some (none-left is y)))
+          absurd (some-indexes u (c ∙ ap some (empty-list is y)))
 
   -- indexes in a bracket, of which `last` is the last place
   pub token-indexes : (r : ℕ) → (n ≡ 0 → ⊥) → (r ≡ indexSizes (listedIndexes (indexesOf (part 1 last p)))) × (r ≤ 4 * (length (part 1 last p) + 1)) → (r ≡ pieceCost (laterToken p)) × (r ≤ 4 * length p)

@@ -1,7 +1,7 @@
 -- The links of a type are written member by member: what is written and what the members left still ask for is what all ask for.
 -- A link falls into the row of its type, so the rows of the other types stay, and each row is made once.
 -- Assumes nothing.
-use Prim.Native.Nat.{ℕ, zero, suc, _+_, _-_, _*_, _≤_, _<_}
+use Prim.Native.Nat.{ℕ, _+_, _-_, _*_, _≤_, _<_}
 use mathlib.Core.Path.{_≡_, refl, sym, ap, _∙_}
 use mathlib.Core.Bool.{Bool, true, false, cond}
 use mathlib.Core.List.{List, [], _∷_}
@@ -14,23 +14,19 @@ use Rattle.fields.specs.Format.{many}
 use Rattle.fields.specs.Fields.{whole, limited, textOf, textPast}
 use Rattle.fields.specs.Places.{valueAt, placeAt, part}
 use Rattle.fields.proofs.Reading.{many-value-none, many-value-more}
+use Rattle.fields.proofs.Lists.{cond-same, zeros}
 use Rattle.catalog.specs.Catalog.{Node, TypeDef, Catalog, node, typeDef, catalogOf}
 use Rattle.catalog.specs.Finding.{any, holds}
 use Rattle.catalog.proofs.Round.{lawful-node}
+use Rattle.nodes.proofs.Standing.{type-name-at, struct-at}
 use Rattle.nesting.specs.Graph.{marked, linked, typeIndex, memberIndex, isOf}
 use Rattle.types.specs.Tables.{Placed, listed, RowLinked, Linked}
-use Rattle.nodes.proofs.Standing.{type-name-at, struct-at}
 use Rattle.types.proofs.Placing.{placed-below, placed-type}
 
 -- ---- entries
 pub blank-entry : (n i : ℕ) → marked (replicate n 0) i ≡ false
 unfolding marked
 blank-entry n i = rw (zeros n i)
-  where
-    zeros : (n k : ℕ) → getD (replicate {A = ℕ} n 0) k 0 ≡ 0
-    zeros zero k = refl
-    zeros (suc n) zero = refl
-    zeros (suc n) (suc k) = zeros n k
 
 module _ (t : List ℕ) (i : ℕ) where
   pub entry-made : i < length t → marked (set t i 1) i ≡ true
@@ -109,14 +105,10 @@ module _ (c : Catalog) (ns : List Node) (k : ℕ) (old out : List ℕ) (s : List
       others = λ j u y x. row-kept out k v (L .size ∙ z) (omega arith) (omega arith) j u y x ∙ L .others j u y x;
     }
       where
-        always : (b : Bool) → cond b true true ≡ true
-        always true = refl
-        always false = refl
-
         go : (u : ℕ) (b : Bool) → eqb u v ≡ b
             → cond (linked (set out (k * 128 + v) 1) k u) true (any (isOf c u) (valueAt (many node (n - 1)) s q)) ≡ cond (linked out k u) true (any (isOf c u) (valueAt (many node n) s p))
         go u true y = rw (one-left, any-first c u (valueAt node s p) (valueAt (many node (n - 1)) s q), of-one c (valueAt node s p) count v e u l, y, eqb-true u v y, link-made out k v (L .size ∙ z) (omega arith) (omega arith))
-            (sym (always (linked out k v)))
+            (sym (cond-same (linked out k v) true))
         go u false y = rw (one-left, any-first c u (valueAt node s p) (valueAt (many node (n - 1)) s q), of-one c (valueAt node s p) count v e u l, y, link-kept out k v (L .size ∙ z) (omega arith) (omega arith) u (eqb-false u v y))
 
   pub linking-end : n ≤ 0 → RowLinked c ns k old out

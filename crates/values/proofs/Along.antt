@@ -25,7 +25,7 @@ module _ {A B : Type 0} (f : Format A) (F : Lawful f) where
   unfolding _then_ onward joined
   along-then g G s i = rw (F .along s i) (G s (f .read (drop i s) i .place))
 
-  along-leading : (key : B → A) (g : A → Format B) → ((a : A) → Along (g a)) → Along (leading f key g)
+  pub along-leading : (key : B → A) (g : A → Format B) → ((a : A) → Along (g a)) → Along (leading f key g)
   unfolding leading onward joined
   along-leading key g G s i = rw (F .along s i) (G (f .read (drop i s) i .value) s (f .read (drop i s) i .place))
 

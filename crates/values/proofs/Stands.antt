@@ -17,6 +17,7 @@ use Rattle.values.specs.File.{sized}
 use Rattle.values.specs.Alike.{pastValue, kindAt, countPlace}
 use Rattle.values.specs.Dig.{countAt, firstPlace}
 use Rattle.values.proofs.Walks.{value-end}
+use Rattle.values.proofs.Apart.{value-there}
 
 -- the bytes `l` stand at the place `at`
 pub record Stands (s : List ℕ) (at : ℕ) (l : List ℕ) : Type 0 where
@@ -47,8 +48,7 @@ module _ {s : List ℕ} {at : ℕ} where
 -- ---- fields that stand at a place
 module _ {A : Type 0} (f : Format A) (F : Lawful f) (a : A) (w : f .within a) (s : List ℕ) (at : ℕ) (h : Stands s at (f .lay a)) where
   stands-value : valueAt f s at ≡ a
-  unfolding valueAt given
-  stands-value = ap (λ l. f .read l at .value) (h .eq) ∙ ap (λ x. x .value) (F .back a w (h .behind) at)
+  stands-value = value-there f F a w s at (h .behind) (h .eq)
 
   stands-place : placeAt f s at ≡ at + length (f .lay a)
   unfolding placeAt given

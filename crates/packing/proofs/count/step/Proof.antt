@@ -2,7 +2,8 @@
 use mathlib.Core.Path.{sym, _∙_}
 use native.Mathlib.Omega.{arith}
 use borrow.Author.Needs.{needs}
-use Rattle.packing.proofs.Steps.{not-alone, fits-sum, stepped-alone, stepped-joins, stepped-opens}
+use Rattle.packing.proofs.Fitting.{not-alone}
+use Rattle.packing.proofs.Steps.{fits-sum, stepped-alone, stepped-joins, stepped-opens}
 use Rattle.packing.proofs.count.step.Statement.{statement}
 use Rattle.packing.proofs.count.step.Tie as tie
 

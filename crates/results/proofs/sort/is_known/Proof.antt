@@ -4,16 +4,16 @@ use mathlib.Core.Path.{_≡_, refl, _∙_}
 use native.Mathlib.Omega.{arith}
 use denote.Ref.{now}
 use borrow.Author.Needs.{needs}
-use Rattle.plans.specs.Plans.{read}
 use Rattle.fields.specs.Places.{valueAt}
-use Rattle.results.proofs.Failing.{known-here, known-later, known-none}
+use Rattle.plans.specs.Plans.{read}
+use Rattle.repeats.specs.Repeats.{isAgain}
 use Rattle.results.specs.Told.{namesAt}
-use Rattle.results.specs.Sorting.{stands}
+use Rattle.results.proofs.Failing.{known-here, known-later, known-none}
 use Rattle.results.proofs.sort.is_known.Statement.{statement}
 use Rattle.results.proofs.sort.is_known.Tie as tie
 
 abbrev Inv-loop : tie.InvT-loop
-Inv-loop plan places k p j₀ j = (stands (valueAt read plan p .name) (namesAt plan places j) ≡ stands (valueAt read plan p .name) (namesAt plan places k)) × (j ≤ k)
+Inv-loop plan places k p j₀ j = (isAgain (valueAt read plan p .name) (namesAt plan places j) ≡ isAgain (valueAt read plan p .name) (namesAt plan places k)) × (j ≤ k)
 
 abbrev μ-loop : tie.MeasureT-loop
 μ-loop plan places k p j₀ j = j

@@ -2,9 +2,9 @@
 use mathlib.Core.Path.{refl, sym, ap}
 use denote.Ref.{now}
 use borrow.Author.Needs.{needs}
-use Rattle.results.proofs.Turning.{all-ahead, turn-room, turn-put, all-put}
-use Rattle.results.proofs.Putting.{Putting, putting-start, putting-same, putting-room}
+use Rattle.fields.proofs.Putting.{Putting, putting-start, putting-same, putting-room}
 use Rattle.results.specs.Told.{laid, entriesAt, allEntries}
+use Rattle.results.proofs.Turning.{all-ahead, turn-room, turn-put, all-put}
 use Rattle.results.proofs.sort.put_all.Statement.{statement}
 use Rattle.results.proofs.sort.put_all.Tie as tie
 

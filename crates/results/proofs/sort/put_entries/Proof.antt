@@ -2,9 +2,9 @@
 use mathlib.Core.Path.{refl}
 use denote.Ref.{now}
 use borrow.Author.Needs.{needs}
-use Rattle.results.proofs.Entries.{entry-room, entry-put, entries-put}
-use Rattle.results.proofs.Putting.{Putting, putting-start, putting-room}
+use Rattle.fields.proofs.Putting.{Putting, putting-start, putting-room}
 use Rattle.results.specs.Told.{laid, turnEntries}
+use Rattle.results.proofs.Entries.{entry-room, entry-put, entries-put}
 use Rattle.results.proofs.sort.put_entries.Statement.{statement}
 use Rattle.results.proofs.sort.put_entries.Tie as tie
 

@@ -5,8 +5,8 @@ use lib.ListN.{length, drop}
 use borrow.Author.Needs.{needs}
 use Rattle.fields.specs.Fields.{number}
 use Rattle.fields.specs.Format.{manyLay}
+use Rattle.fields.proofs.Putting.{Putting}
 use Rattle.results.proofs.Failing.{positions-start, position-room, position-put, positions-end, positions-size}
-use Rattle.results.proofs.Putting.{Putting}
 use Rattle.results.proofs.sort.put_positions.Statement.{statement}
 use Rattle.results.proofs.sort.put_positions.Tie as tie
 

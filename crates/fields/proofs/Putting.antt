@@ -1,13 +1,14 @@
 -- A piece that is put at a place of a buffer bit by bit: what was put so far, and what is left to put.
 -- Assumes nothing.
-use Prim.Native.Nat.{ℕ, _+_, _≤_}
+use Prim.Native.Nat.{ℕ, _+_, _%_, _^_, _≤_, _<_}
 use mathlib.Core.Path.{_≡_, sym, subst}
 use mathlib.Core.List.{List, [], _++_}
 use native.Mathlib.Omega.{arith}
 use lib.ListN.{length, take, length-append}
 use lib.Seq.{length-take-le}
+use Rattle.fields.specs.Fields.{digits}
 use Rattle.fields.specs.Writing.{patch}
-use Rattle.fields.proofs.Filling.{Filling, filling-room, filling-next, placing-start, placing-end}
+use Rattle.fields.proofs.Filling.{Filling, filling-room, filling-next, filling-number, placing-start, placing-end}
 
 -- `rest` is left to put of `all`, which is put at `at` over `old`
 pub record Putting (all old : List ℕ) (at : ℕ) (out : List ℕ) (p : ℕ) (rest : List ℕ) : Type 0 where
@@ -30,6 +31,10 @@ module _ (all old : List ℕ) (at : ℕ) where
     pub putting-next : (t rest out′ : List ℕ) → Putting all old at out p (t ++ rest) → out′ ≡ patch out p t → Putting all old at out′ (p + length t) rest
     putting-next t rest out′ f e =
         record { room = f .room; fills = subst (λ x. Filling (take at old ++ all) old x (p + length t) rest) (sym e) (filling-next (take at old ++ all) old out p t rest (f .fills)) }
+
+    -- a number of two bytes is put
+    pub putting-two : (v : ℕ) (rest out′ : List ℕ) → v < 65536 → Putting all old at out p (digits 2 v ++ rest) → out′ ≡ patch out p (digits 2 (v % 256 ^ 2)) → Putting all old at out′ (p + 2) rest
+    putting-two v rest out′ h f e = record { room = f .room; fills = filling-number (take at old ++ all) old out out′ p 2 v rest h (f .fills) e }
 
     pub putting-end : Putting all old at out p [] → (p ≡ at + length all) × (out ≡ patch old at all)
     putting-end f =
