@@ -1,12 +1,11 @@
 #!/usr/bin/env python3
 """Writes stored plans as theorems: what the Rust answered is the plan by definition.
 
-usage: tools/plan_cases.py [--above] CASES MODULE [[TITLE=]NUMBERS ..]
+usage: tools/plan_cases.py CASES MODULE [[TITLE=]NUMBERS ..]
 
 CASES is crates/replay/data/plan.cases, MODULE the antt file to write. NUMBERS are positions of cases, the first being 0,
 as 0-14,20; without any, the cases that MODULE has already are written again, or all if there is no such file. TITLE becomes
-a comment above its cases. The module is one of the planner's proofs/; with --above it is one of a crate that stands on the
-planner.
+a comment above its cases. The module is one of the planner's proofs/, or of a crate's that stands on the planner.
 """
 import json
 import os
@@ -15,7 +14,7 @@ import sys
 
 WIDTH = 130
 MARK = "-- ---- "
-WORDS = ["bytes", "named", "indexed", "firstOf"]
+WORDS = ["bytes", "named", "indexed", "first_of"]
 
 
 class Reader:
@@ -95,7 +94,7 @@ def tag_list(data):
 
 def step(r):
     key = r.number(1)
-    return Call(["named", r.text()]) if key == 0 else Call([["indexed", "firstOf"][key - 1], word(r.number(4))])
+    return Call(["named", r.text()]) if key == 0 else Call([["indexed", "first_of"][key - 1], word(r.number(4))])
 
 
 def member(r):
@@ -146,24 +145,24 @@ HEAD = """-- Stored cases: the plan of a list by definition is the plan that the
 -- Written by tools/plan_cases.py from crates/replay/data/plan.cases; a theorem has its case's position there as its number.
 -- Assumes nothing.
 use Prim.Native.Nat.{ℕ}
-use mathlib.Core.Path.{_≡_, refl}
-use mathlib.Core.List.{List, [], _∷_}
+use mathlib.Core.Path.{◌≡◌, refl}
+use mathlib.Core.List.{List, [], ◌∷◌}
 use mathlib.Core.Option.{Option, none, some}
-use Rattle·fields.specs.Text.{Text, bytes}
-use Rattle·catalog.specs.Catalog.{Node, TypeDef, Catalog}
-use Rattle·catalog.specs.declared.Kind.{Kind}
-use Rattle·catalog.specs.declared.Kind.the-variants.{Atomic, Struct, String}
-use Rattle·catalog.specs.declared.Aoi.{Aoi}
-use Rattle·catalog.specs.declared.Aoi.the-variants.{No, Whole, Parts}
-use Rattle·packing.specs.Packing.{standard}
-use Rattle·lists.specs.Lists.{TagList}
-use Rattle·plans.specs.Plans.{Step, named, indexed, firstOf, Member, Read}
-use SPECS.Plan.{planOf}
-use PROOFS.Computing.{computing}
+use Rattle.fields.specs.Text.{Text, bytes}
+use Rattle.catalog.specs.Catalog.{Node, TypeDef, Catalog}
+use Rattle.catalog.specs.declared.Kind.{Kind}
+use Rattle.catalog.specs.declared.Kind.TheVariants.{Atomic, Struct, String}
+use Rattle.catalog.specs.declared.Aoi.{Aoi}
+use Rattle.catalog.specs.declared.Aoi.TheVariants.{No, Whole, Parts}
+use Rattle.packing.specs.Packing.{standard}
+use Rattle.lists.specs.Lists.{TagList}
+use Rattle.plans.specs.Plans.{Step, named, indexed, first_of, Member, Read}
+use Rattle.planner.specs.Plan.{plan_of}
+use Rattle.planner.proofs.Computing.{computing}
 
 -- a tag of a catalog, or a member of a type
 abbrev node : Text → Text → Kind → List ℕ → Option ℕ → Option ℕ → Node
-node a t k ds i z = record { name = a; typeName = t; kind = k; dims = ds; id = i; size = z }
+node a t k ds i z = record { name = a; type_name = t; kind = k; dims = ds; id = i; size = z }
 
 -- a type of a catalog
 abbrev type : Text → ℕ → Aoi → List Node → TypeDef
@@ -175,7 +174,7 @@ catalog ns ds = record { tags = ns; types = ds }
 
 -- what is asked: whole maximum, budget, no-group names, together names, tags
 abbrev listing : ℕ → ℕ → List Text → List Text → List Text → TagList
-listing m b ns gs ts = record { wholeMax = m; budget = b; noGroup = ns; together = gs; tags = ts }
+listing m b ns gs ts = record { whole_max = m; budget = b; no_group = ns; together = gs; tags = ts }
 
 -- a tag that its read gives whole
 abbrev plain : Text → Member
@@ -216,19 +215,15 @@ def theorem(n, case, known):
     if case[0] not in known:
         known[case[0]] = f"catalog-{n}"
         lines += ["", f"abbrev catalog-{n} : Catalog", f"catalog-{n} =", "    " + shown(catalog(case[0]))]
-    lines += ["", f"case-{n} : planOf standard {known[case[0]]}", "    " + shown(tag_list(case[1]), True)]
+    lines += ["", f"case-{n} : plan_of standard {known[case[0]]}", "    " + shown(tag_list(case[1]), True)]
     return lines + ["    ≡ " + shown(plan(case[2])), "unfolding computing", f"case-{n} = refl"]
 
 
 def main(arguments):
-    above = "--above" in arguments
-    arguments = [a for a in arguments if a != "--above"]
     if len(arguments) < 2:
         sys.exit(__doc__.strip())
     cases = stored(arguments[0])
-    specs = "Rattle·planner.specs" if above else "Rattle·planner·specs.specs"
-    proofs = "Rattle·planner.proofs" if above else "Rattle·planner·proofs.proofs"
-    lines, known = [HEAD.replace("SPECS", specs).replace("PROOFS", proofs).rstrip()], {}
+    lines, known = [HEAD.rstrip()], {}
     for part in arguments[2:] or kept(arguments[1], len(cases)):
         title, _, part = part.rpartition("=")
         lines += ["", MARK + title] if title else []

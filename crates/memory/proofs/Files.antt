@@ -17,7 +17,7 @@ use Rattle.catalog.specs.Check.{Acceptable}
 use Rattle.packing.specs.declared.Cost.{Cost}
 use Rattle.plans.specs.Plans.{Step, steps, Member, member, Read, read}
 use Rattle.plans.proofs.Round.{lawful-steps}
-use Rattle.lists.specs.Lists.{TagList, tag_list, longest_list, layout as listLayout}
+use Rattle.lists.specs.Lists.{TagList, tag_list, longest_list, layout as list_layout}
 use Rattle.planner.proofs.Writable.{plan-writable}
 use Rattle.planner.specs.Plan.{plan_of}
 use Rattle.values.specs.Value.{Value, leads}
@@ -67,10 +67,11 @@ keys-within none h = no_keys
 keys-within (some ks) h = h.1.1
 
 in_all : {A : Type 0} (P : A → Type 0) (x : A) (xs : List A) → All P xs → In x xs → P x
+in_all {A = A} P x [] h x3 = elim x3 [ ]
 in_all P x (y ∷ ys) h (here _ _) = h.0
 in_all P x (y ∷ ys) h (there _ _ _ i) = in_all P x ys h.1 i
 
-path-within : (k : Cost) (c : Catalog) (w : TagList) → tag_list.within w → length (listLayout w) ≤ longest_list → (r : Read) → In r (plan_of k c w)
+path-within : (k : Cost) (c : Catalog) (w : TagList) → tag_list.within w → length (list_layout w) ≤ longest_list → (r : Read) → In r (plan_of k c w)
     → (e : Member) → In e r.members → steps.within (keys_of e.path)
 unfolding counted leading many read member mapped ◌then◌
 path-within k c w h n r i e j =
@@ -81,7 +82,7 @@ path-within k c w h n r i e j =
 
 -- THEOREM (demand 3, over files): `dig`, given a value file that is not refused and holds the read's value, and the path as the plan file
 -- carries it, hands back byte for byte the value that reading the path's tag alone gives, as a file lays it out
-pub demand-3-dug : (k : Cost) (c : Catalog) (w : TagList) → Acceptable c → tag_list.within w → length (listLayout w) ≤ longest_list
+pub demand-3-dug : (k : Cost) (c : Catalog) (w : TagList) → Acceptable c → tag_list.within w → length (list_layout w) ≤ longest_list
     → (m : Memory) → MemoryFits c m → (r : Read) → In r (plan_of k c w) → TagsFit c r
     → (s : List ℕ) → Bytes s → value_verdict s ≡ fine → read_name c m r.name ≡ some (value_of s) → (e : Member) → In e r.members → Shows c m s e
 unfolding dig_verdict cut_of cut_bytes first

@@ -19,7 +19,7 @@ use Rattle.catalog.specs.Finding.{find, any, holds}
 use Rattle.nodes.specs.Lookup.{is_called}
 use Rattle.sizes.specs.Sizes.{is_empty, bit_types}
 use Rattle.values.specs.Value.{Value, leaf, array, struct, Items, no_item, Members, no_member, nth, first_member}
-use Rattle.values.specs.Value.{text as string, item as oneItem, member as one_member}
+use Rattle.values.specs.Value.{text as string, item as one_item, member as one_member}
 use Rattle.values.specs.File.{item_count}
 use Rattle.memory.specs.Fitting.{Shape, any_value, leaf_of, string_shape, struct_of, items_of, bits_of, some_bits, sided, row_shape, sides_shape, shape_of, Fits, fits_any, fits_leaf, fits_string, fits_struct, fits_items, fits_bits, fits_some_bits, FitsItems, fits_no_item, fits_item, FitsMembers, fits_no_member, fits_member, Memory, MemoryFits, is_below, called_in, member_in, indexed_by, node_behind, node_along, node_of, tag_fits}
 use Rattle.memory.specs.Reading.{member_of, item_of, item_along, value_behind, value_along, base_value, read_tokens}
@@ -60,6 +60,8 @@ each-called P t (x ∷ ns) n h e = go (is_called t x) e (each-called P t ns n h.
 member-found : (c : Catalog) (t : Text) (ms : Members) (ns : List Node) (n : Node) → FitsMembers c ms ns → called_in t ns ≡ some n
     → Found c (first_member (alike t) ms) n
 unfolding called_in find first_member is_called
+member-found c t (one_member k v ms) [] n x4 e = elim x4 [ ]
+member-found c t no_member (x ∷ ns) n x5 e = elim x5 [ ]
 member-found c t no_member [] n fits_no_member e = absurd (none-some e)
 member-found c t (one_member k v ms) (x ∷ ns) n (fits_member _ _ _ _ _ i h hs) e =
     rw (i, alike-swap t x.name) (go (alike x.name t) e (member-found c t ms ns n hs))
@@ -72,6 +74,24 @@ member-found c t (one_member k v ms) (x ∷ ns) n (fits_member _ _ _ _ _ i h hs)
 -- a name leads to the member
 named-found : (c : Catalog) (v : Value) (s : Shape) → Fits c v s → (t : Text) (o : Node) → member_in s t ≡ some o → Found c (member_of v t) o
 unfolding member_in member_of
+named-found c (array vs) (leaf_of z) x3 t o e = elim x3 [ ]
+named-found c (array vs) (struct_of ns) x6 t o e = elim x6 [ ]
+named-found c (array vs) string_shape x5 t o e = elim x5 [ ]
+named-found c (leaf b) (bits_of d) x7 t o e = elim x7 [ ]
+named-found c (leaf b) (items_of d n) x6 t o e = elim x6 [ ]
+named-found c (leaf b) (struct_of ns) x5 t o e = elim x5 [ ]
+named-found c (leaf b) some_bits x8 t o e = elim x8 [ ]
+named-found c (leaf b) string_shape x4 t o e = elim x4 [ ]
+named-found c (string b) (bits_of d) x9 t o e = elim x9 [ ]
+named-found c (string b) (items_of d n) x8 t o e = elim x8 [ ]
+named-found c (string b) (leaf_of z) x5 t o e = elim x5 [ ]
+named-found c (string b) (struct_of ns) x7 t o e = elim x7 [ ]
+named-found c (string b) some_bits x10 t o e = elim x10 [ ]
+named-found c (struct ms) (bits_of d) x8 t o e = elim x8 [ ]
+named-found c (struct ms) (items_of d n) x7 t o e = elim x7 [ ]
+named-found c (struct ms) (leaf_of z) x4 t o e = elim x4 [ ]
+named-found c (struct ms) some_bits x9 t o e = elim x9 [ ]
+named-found c (struct ms) string_shape x6 t o e = elim x6 [ ]
 named-found c v any_value (fits_any w) t o e = absurd (none-some e)
 named-found c (leaf b) (leaf_of z) (fits_leaf _ _ q) t o e = absurd (none-some e)
 named-found c (string b) string_shape (fits_string _) t o e = absurd (none-some e)
@@ -84,8 +104,8 @@ named-found c (array vs) some_bits (fits_some_bits _ h) t o e = absurd (none-som
 item-found : (c : Catalog) (vs : Items) (n : Node) → FitsItems c vs n → (i : ℕ) → i < item_count vs → Found c (nth vs i) n
 unfolding item_count nth
 item-found c no_item n (fits_no_item k) i l = absurd (omega arith)
-item-found c (oneItem v vs) n (fits_item _ _ _ h hs) zero l = record { value = v; is = refl; fits = h }
-item-found c (oneItem v vs) n (fits_item _ _ _ h hs) (suc i) l = item-found c vs n hs i (omega arith)
+item-found c (one_item v vs) n (fits_item _ _ _ h hs) zero l = record { value = v; is = refl; fits = h }
+item-found c (one_item v vs) n (fits_item _ _ _ h hs) (suc i) l = item-found c vs n hs i (omega arith)
 
 -- a type that is none of several
 pub not-any : (p : Text → Bool) (x : Text) (xs : List Text) → any p (x ∷ xs) ≡ false → (p x ≡ false) × (any p xs ≡ false)
@@ -117,10 +137,16 @@ pub record ArrayOf (c : Catalog) (v : Value) (d : ℕ) (n : Node) : Type 0 where
   pub fit : FitsItems c items n
 
 pub array-is : (c : Catalog) (v : Value) (d : ℕ) (n : Node) → Fits c v (items_of d n) → ArrayOf c v d n
+array-is c (leaf _) d n x'' = elim x'' [ ]
+array-is c (string _) d n x4 = elim x4 [ ]
+array-is c (struct _) d n x3 = elim x3 [ ]
 array-is c (array vs) d n (fits_items _ _ _ q h) = record { items = vs; is = refl; count = q; fit = h }
 
 item-of-found : (c : Catalog) (v : Value) (d : ℕ) (n : Node) (i : ℕ) → Fits c v (items_of d n) → i < d → Found c (item_of v i) n
 unfolding item_of
+item-of-found c (leaf _) d n i x3 l = elim x3 [ ]
+item-of-found c (string _) d n i x5 l = elim x5 [ ]
+item-of-found c (struct _) d n i x4 l = elim x4 [ ]
 item-of-found c (array vs) d n i (fits_items _ _ _ q h) l = item-found c vs n h i (omega arith)
 
 -- one index for each dimension leads to the item

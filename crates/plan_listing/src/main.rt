@@ -1,241 +1,246 @@
 // The plan program: plans the list file for the catalog file that are named as its arguments, and prints the plan, group by group. With no
 // arguments it plans the bundled example. A refusal is told by its number, in words, and with what is returned.
+
+#![tactic(auto)]
+
 use fields::check::{text_at, text_past};
 use fields::number::{number_at, past, raw};
 use fields::{Checked, Refusal, Width, Written};
 use groups::plan_chunks;
-use libc::STDOUT_FILENO;
 use lists::check::check_list;
 use lists::read::budget;
 use planning::plan::plan;
 use plans::place::{member_past, read_count, read_past, reads_start, step_past};
 use queries::check_catalog;
-
-// Prints a text.
-fn say(t: &[u8]) {
-    io::write_all(STDOUT_FILENO, t);
-}
+use std::fs::File;
+use std::io::{BufWriter, Read, Write};
+use std::rt::Files;
+use std::{env, io};
 
 // Prints what is wrong, and what the number that is returned stands for.
-fn print_cause(r: Refusal) {
-    match r {
-        Refusal::FileTooLong(_) => say(b"the file is too long; the most bytes are "),
-        Refusal::BadVersion => say(b"the file does not start with version 1, at byte "),
-        Refusal::OutOfFile(_) => say(b"a field past the end, or bytes left over, at byte "),
-        Refusal::NotAllowed(_) => say(b"this byte may not stand here, at byte "),
-        Refusal::OverLimit(_) => say(b"a number or length over its limit, at byte "),
-        Refusal::NamesAlike(_) => say(b"a name that stands there already, at byte "),
-        Refusal::TypesTooDeep(_) => say(b"types nested over 16 deep, from the one at byte "),
-        Refusal::IndexTooLarge(_) => say(b"an index or count that is too large, at byte "),
-        Refusal::OutputTooShort(_) => say(b"the output is too short; bytes needed: "),
-        Refusal::TooManyLevels(_) => say(b"values nested over 40 levels deep, at byte "),
-        Refusal::CountsDiffer(_) => say(b"two inputs differ in their count; the smaller is "),
-    }
+fn print_cause(out: &mut impl Write, r: Refusal) -> io::Result<()> {
+    let words = match r {
+        Refusal::FileTooLong(_) => "the file is too long; the most bytes are",
+        Refusal::BadVersion => "the file does not start with version 1, at byte",
+        Refusal::OutOfFile(_) => "a field past the end, or bytes left over, at byte",
+        Refusal::NotAllowed(_) => "this byte may not stand here, at byte",
+        Refusal::OverLimit(_) => "a number or length over its limit, at byte",
+        Refusal::NamesAlike(_) => "a name that stands there already, at byte",
+        Refusal::TypesTooDeep(_) => "types nested over 16 deep, from the one at byte",
+        Refusal::IndexTooLarge(_) => "an index or count that is too large, at byte",
+        Refusal::OutputTooShort(_) => "the output is too short; bytes needed:",
+        Refusal::TooManyLevels(_) => "values nested over 40 levels deep, at byte",
+        Refusal::CountsDiffer(_) => "two inputs differ in their count; the smaller is",
+    };
+    write!(out, "{words}")
 }
 
 // A line on a refused file of a kind: the number of the cause, the cause in words, and what is returned.
-fn print_refusal(kind: &[u8], r: Refusal) {
-    say(kind);
-    say(b" refused, ");
-    io::print_decimal(STDOUT_FILENO, r.number() as u64);
-    say(b": ");
-    print_cause(r);
-    io::print_decimal(STDOUT_FILENO, r.returned() as u64);
-    say(b"\n");
+fn print_refusal(out: &mut impl Write, kind: &str, r: Refusal) -> io::Result<()> {
+    let number = r.number();
+    let returned = r.returned();
+    write!(out, "{kind} refused, {number}: ")?;
+    print_cause(out, r)?;
+    writeln!(out, " {returned}")
 }
 
-// What is told of a file that cannot be read: more bytes than a buffer here has.
-const UNREADABLE: usize = 1000000;
-
-// Reads the file of a path into a buffer; how many bytes it has. A longer file fills the buffer, which is longer than any file that is
-// accepted.
-fn read_path(path: &[u8], buf: &mut [u8]) -> usize {
-    let fd = os::open_read(path);
-    if fd < 0 {
-        os::fail(path);
-        return UNREADABLE;
-    }
-    let n = io::read_full(fd, buf);
-    libc::close(fd);
-    n
+// Reads the file of a path. Of a longer file than any that is accepted no more than the bytes that show it are read.
+fn read_path<R: Files + AllocGlobal>(rt: &R, path: &str, most: u64) -> io::Result<Vec<u8>> {
+    let mut bytes = Vec::new(rt.alloc());
+    File::open(rt, path)?.take(most).read_to_end(&mut bytes)?;
+    Ok(bytes)
 }
 
-// Reads the file that is named as an argument, or another where none is.
-fn read_file(argument: usize, other: &[u8], buf: &mut [u8]) -> usize {
-    let mut path = io::buffer();
-    let n = os::arg(argument, &mut path);
-    if n == 0 {
-        return read_path(other, buf);
+// The path that is named as an argument, or another where none is.
+fn named<'a>(argument: &'a Option<String>, other: &'a str) -> &'a str {
+    match argument {
+        Some(path) if !path.is_empty() => path.as_str(),
+        _ => other,
     }
-    read_path(&path[..n], buf)
+}
+
+// Reads the file that is named as an argument, or another where none is; nothing where it cannot be read, which standard error is told.
+fn read_file<R: Files + AllocGlobal + Eprint>(
+    rt: &R,
+    argument: &Option<String>,
+    other: &str,
+    most: u64,
+) -> io::Result<Option<Vec<u8>>> {
+    let path = named(argument, other);
+    match read_path(rt, path, most) {
+        Ok(bytes) => Ok(Some(bytes)),
+        Err(e) => {
+            eprintln!(rt; "{path}: {e}")?;
+            Ok(None)
+        }
+    }
 }
 
 // Prints the text at a place.
-fn print_text(s: &[u8], at: usize) {
+fn print_text(out: &mut impl Write, s: &[u8], at: usize) -> io::Result<()> {
     let t = text_at(s, at);
-    let a = t.start;
-    let b = t.end;
-    say(&s[a..b]);
+    out.write_all(&s[t.start..t.end])
 }
 
 // Prints a key: `.name` or `[n]`.
-fn print_step(s: &[u8], at: usize) {
+fn print_step(out: &mut impl Write, s: &[u8], at: usize) -> io::Result<()> {
     let p = past(s, at, 1);
     if number_at(s, at, Width::One, 2) == 0 {
-        say(b".");
-        print_text(s, p);
-        return;
+        write!(out, ".")?;
+        return print_text(out, s, p);
     }
-    say(b"[");
-    io::print_decimal(STDOUT_FILENO, raw(s, p, Width::Four) as u64);
-    say(b"]");
+    let index = raw(s, p, Width::Four);
+    write!(out, "[{index}]")
 }
 
 // Prints so many keys from a place on.
-fn print_steps(s: &[u8], from: usize, count: usize) {
+fn print_steps(out: &mut impl Write, s: &[u8], from: usize, count: usize) -> io::Result<()> {
     let mut at = from;
-    let mut k = count;
-    while 0 < k {
-        print_step(s, at);
+    for _ in 0..count {
+        print_step(out, s, at)?;
         at = step_past(s, at);
-        k -= 1;
     }
+    Ok(())
 }
 
 // Prints a member: its tag, and its path if it has one.
-fn print_member(s: &[u8], at: usize) {
-    say(b"tag ");
-    print_text(s, at);
+fn print_member(out: &mut impl Write, s: &[u8], at: usize) -> io::Result<()> {
+    write!(out, "tag ")?;
+    print_text(out, s, at)?;
     let flag = text_past(s, at);
     if 0 < number_at(s, flag, Width::One, 1) {
         let keys = past(s, flag, 1);
-        say(b" path ");
-        print_steps(s, past(s, keys, 1), number_at(s, keys, Width::One, 64));
+        write!(out, " path ")?;
+        print_steps(out, s, past(s, keys, 1), number_at(s, keys, Width::One, 64))?;
     }
-    say(b"\n");
+    writeln!(out, "")
 }
 
 // Prints a read and its members.
-fn print_read(s: &[u8], at: usize) {
-    say(b"read ");
-    print_text(s, at);
-    say(b"\n");
+fn print_read(out: &mut impl Write, s: &[u8], at: usize) -> io::Result<()> {
+    write!(out, "read ")?;
+    print_text(out, s, at)?;
+    writeln!(out, "")?;
     let count = text_past(s, at);
     let mut p = past(s, count, 2);
-    let mut k = number_at(s, count, Width::Two, 256);
-    while 0 < k {
-        print_member(s, p);
+    for _ in 0..number_at(s, count, Width::Two, 256) {
+        print_member(out, s, p)?;
         p = member_past(s, p);
-        k -= 1;
     }
+    Ok(())
 }
 
 // Where each read stands.
 fn fill_places(s: &[u8], places: &mut [usize; 256]) {
     let n = read_count(s);
     let mut at = reads_start(s);
-    let mut i = 0;
-    while i < n {
+    for i in 0..n {
         places[i] = at;
         at = read_past(s, at);
-        i += 1;
     }
 }
 
 // Prints so many reads, of which the positions stand from a place on; the place past them.
-fn print_group(s: &[u8], places: &[usize; 256], groups: &[u8], from: usize, count: usize) -> usize {
+fn print_group(
+    out: &mut impl Write,
+    s: &[u8],
+    places: &[usize; 256],
+    groups: &[u8],
+    from: usize,
+    count: usize,
+) -> io::Result<usize> {
     let mut at = from;
-    let mut k = count;
-    while 0 < k {
-        print_read(s, places[number_at(groups, at, Width::Two, 255)]);
+    for _ in 0..count {
+        print_read(out, s, places[number_at(groups, at, Width::Two, 255)])?;
         at = past(groups, at, 2);
-        k -= 1;
     }
-    at
+    Ok(at)
 }
 
 // Prints a plan by its file and its groups file.
-fn print_plan(s: &[u8], groups: &[u8]) {
+fn print_plan(out: &mut impl Write, s: &[u8], groups: &[u8]) -> io::Result<()> {
     let mut places = [0; 256];
     fill_places(s, &mut places);
-    say(b"plan ");
-    io::print_decimal(STDOUT_FILENO, read_count(s) as u64);
-    say(b" reads ");
-    io::print_decimal(STDOUT_FILENO, raw(groups, 1, Width::Eight) as u64);
-    say(b" packets\n");
+    let reads = read_count(s);
+    let packets = raw(groups, 1, Width::Eight);
+    writeln!(out, "plan {reads} reads {packets} packets")?;
     let count = number_at(groups, 9, Width::Two, 256);
     let mut at = 11;
-    let mut k = 0;
-    while k < count {
-        k += 1;
-        say(b"group ");
-        io::print_decimal(STDOUT_FILENO, k as u64);
-        say(b"\n");
+    for k in 0..count {
+        let number = k + 1;
+        writeln!(out, "group {number}")?;
         let n = number_at(groups, at, Width::Two, 256);
-        at = print_group(s, &places, groups, past(groups, at, 2), n);
+        at = print_group(out, s, &places, groups, past(groups, at, 2), n)?;
     }
+    Ok(())
 }
 
 // Whether a file is accepted; where it is not, the refusal is printed behind the file's kind.
-fn is_accepted(kind: &[u8], v: Checked) -> bool {
+fn is_accepted(out: &mut impl Write, kind: &str, v: Checked) -> io::Result<bool> {
     match v {
-        Checked::Good(_) => true,
+        Checked::Good(_) => Ok(true),
         Checked::Refused(r) => {
-            print_refusal(kind, r);
-            false
+            print_refusal(out, kind, r)?;
+            Ok(false)
         }
     }
 }
 
 // Prints the groups of a plan.
-fn print_groups(catalog: &[u8], file: &[u8], packet: u16) {
+fn print_groups(out: &mut impl Write, catalog: &[u8], file: &[u8], packet: u16) -> io::Result<()> {
     let mut groups = [0; 2048];
     let w = plan_chunks(catalog, file, packet, &mut groups);
     match w {
-        Written::Refused(r) => print_refusal(b"groups", r),
-        Written::Done(_) => print_plan(file, &groups),
+        Written::Refused(r) => print_refusal(out, "groups", r),
+        Written::Done(_) => print_plan(out, file, &groups),
     }
 }
 
 // Prints the groups of the plan that has so many bytes at the front of a buffer.
-fn print_made(catalog: &[u8], out: &[u8], n: usize, packet: u16) {
-    if out.len() < n {
-        return;
+fn print_made(
+    out: &mut impl Write,
+    catalog: &[u8],
+    buffer: &[u8],
+    n: usize,
+    packet: u16,
+) -> io::Result<()> {
+    if buffer.len() < n {
+        return Ok(());
     }
-    print_groups(catalog, &out[..n], packet);
+    print_groups(out, catalog, &buffer[..n], packet)
 }
 
 // Plans, and prints the plan.
-fn show(catalog: &[u8], list: &[u8]) {
-    if !is_accepted(b"catalog", check_catalog(catalog)) {
-        return;
+fn show(out: &mut impl Write, catalog: &[u8], list: &[u8]) -> io::Result<()> {
+    if !is_accepted(out, "catalog", check_catalog(catalog))? {
+        return Ok(());
     }
-    if !is_accepted(b"list", check_list(list)) {
-        return;
+    if !is_accepted(out, "list", check_list(list))? {
+        return Ok(());
     }
-    let mut out = io::large_buffer();
-    let w = plan(catalog, list, &mut out);
+    let mut buffer = [0; 65536];
+    let w = plan(catalog, list, &mut buffer);
     match w {
-        Written::Refused(r) => print_refusal(b"plan", r),
-        Written::Done(n) => print_made(catalog, &out, n, budget(list)),
+        Written::Refused(r) => print_refusal(out, "plan", r),
+        Written::Done(n) => print_made(out, catalog, &buffer, n, budget(list)),
     }
 }
 
-// The same of two files at the fronts of buffers, with so many bytes each; nothing where one of them could not be read.
-fn show_fronts(catalog: &[u8], n: usize, list: &[u8], m: usize) {
-    if catalog.len() < n {
-        return;
-    }
-    if list.len() < m {
-        return;
-    }
-    show(&catalog[..n], &list[..m]);
-}
+// One byte more than a catalog and a list that are accepted may have.
+const CATALOG_MOST: u64 = 65537;
 
-fn main() {
-    let mut catalog = [0; 65537];
-    let mut list = [0; 16385];
-    let n = read_file(1, b"examples/motor.catalog", &mut catalog);
-    let m = read_file(2, b"examples/motor.list", &mut list);
-    show_fronts(&catalog, n, &list, m);
+const LIST_MOST: u64 = 16385;
+
+fn main(rt: HostRuntime) -> io::Result<()> {
+    let mut args = env::args(&rt)?;
+    let _ = args.next();
+    let first = args.next();
+    let second = args.next();
+    let catalog = read_file(&rt, &first, "examples/motor.catalog", CATALOG_MOST)?;
+    let list = read_file(&rt, &second, "examples/motor.list", LIST_MOST)?;
+    let mut out = BufWriter::new(rt.alloc(), io::writer(&rt))?;
+    if let (Some(catalog), Some(list)) = (&catalog, &list) {
+        show(&mut out, catalog.as_slice(), list.as_slice())?;
+    }
+    out.flush()
 }

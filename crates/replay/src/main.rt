@@ -1,6 +1,9 @@
 // Replays the stored answers of the Rust: each case of data/ is put to the proved code, and what it answers is compared byte for byte.
 // The refusals of damaged catalogs, lists and plans are document 01's, the Rust has none.
 // It prints a line for each file. How the cases were made stands in data/README.md.
+
+#![tactic(auto)]
+
 ghost use Rattle.std.specs.Prelude.{◌≡◌, length, ◌+◌, ◌≤◌};
 
 use crate::cases::{Call, field, input, input_count};
@@ -10,7 +13,6 @@ use fields::text::equal;
 use fields::write::{put_bytes, put_number};
 use fields::{Checked, Part, Width, Written};
 use groups::plan_chunks;
-use libc::STDOUT_FILENO;
 use lists::check::check_list;
 use lookup::Bytes;
 use lookup::info::info;
@@ -26,6 +28,10 @@ use plans::write::{put_member, put_read};
 use queries::check_catalog;
 use results::sort::sort;
 use sizes::reply::{element_size, read_size};
+use std::fs::File;
+use std::io;
+use std::io::Read;
+use std::rt::Files;
 use structs::whole_size;
 use values::Dug;
 use values::alike::check_value_file;
@@ -34,17 +40,10 @@ use values::cut::dig_place;
 mod cases;
 
 // How many cases were put, and how many were answered otherwise.
-#[derive(Drop)]
+#[derive(Clone, Copy)]
 struct Tally {
     cases: u64,
     differences: u64,
-}
-
-// 655,360 zeros: room for a file of cases.
-fn space() -> [u8; 655360]
-    ensures { 655360 ≡ length result }
-{
-    [0; 655360]
 }
 
 // One case more.
@@ -67,12 +66,10 @@ const UNTOUCHED: u8 = 170;
 
 // Whether the bytes from a place on are as they were before the call.
 fn untouched(out: &[u8], from: usize) -> bool {
-    let mut i = from;
-    while i < out.len() {
+    for i in from..out.len() {
         if out[i] != UNTOUCHED {
             return false;
         }
-        i += 1;
     }
     true
 }
@@ -163,15 +160,11 @@ fn put_verdict(v: Checked, out: &mut [u8]) -> usize {
 fn read_table(s: &[u8], out: &mut [u64]) -> usize
     ensures { result ≤ length out.new }
 {
-    let mut i = 0;
-    while i < out.len() {
-        if s.len() / 8 <= i {
-            return i;
-        }
+    let n = out.len().min(s.len() / 8);
+    for i in 0..n {
         out[i] = raw(s, i * 8, Width::Eight) as u64;
-        i += 1;
     }
-    i
+    n
 }
 
 // The groups of reads, by tables of their sizes.
@@ -291,7 +284,7 @@ fn agrees(call: Call, first: &[u8], second: &[u8], third: &[u8], answer: &[u8]) 
 }
 
 // The rows of names in a list file.
-#[derive(Drop)]
+#[derive(Clone, Copy)]
 enum Row {
     NoGroup,
     Together,
@@ -344,13 +337,9 @@ fn put_row(s: &[u8], row: Row, out: &mut [u8], from: usize) -> usize {
     let count = name_count(s, row);
     let mut at = from + 2;
     put_number(out, from, Width::Two, count as u64);
-    let mut i = 0;
-    while i < count {
+    for i in 0..count {
         let name = name_at(s, row, i);
-        let a = name.start;
-        let b = name.end;
-        at = put_text(out, at, &s[a..b]);
-        i += 1;
+        at = put_text(out, at, &s[name.start..name.end]);
     }
     at
 }
@@ -418,11 +407,9 @@ fn copy_member(s: &[u8], from: usize, out: &mut [u8], at: usize) -> usize {
 fn copy_members(s: &[u8], from: usize, count: usize, out: &mut [u8], start: usize) -> usize {
     let mut p = from;
     let mut at = start;
-    let mut k = count;
-    while 0 < k {
+    for _ in 0..count {
         at = copy_member(s, p, out, at);
         p = member_past(s, p);
-        k -= 1;
     }
     at
 }
@@ -452,11 +439,9 @@ fn copy_read(s: &[u8], from: usize, out: &mut [u8], at: usize) -> usize {
 fn copy_reads(s: &[u8], count: usize, out: &mut [u8]) -> usize {
     let mut p = reads_start(s);
     let mut at = 3;
-    let mut k = count;
-    while 0 < k {
+    for _ in 0..count {
         at = copy_read(s, p, out, at);
         p = read_past(s, p);
-        k -= 1;
     }
     at
 }
@@ -506,47 +491,51 @@ fn replay(call: Call, s: &[u8]) -> Tally {
 }
 
 // A line of the report.
-fn print(path: &[u8], tally: Tally) {
-    io::write_all(STDOUT_FILENO, path);
-    io::write_all(STDOUT_FILENO, b" ");
-    io::print_decimal(STDOUT_FILENO, tally.cases);
-    io::write_all(STDOUT_FILENO, b" cases ");
-    io::print_decimal(STDOUT_FILENO, tally.differences);
-    io::write_all(STDOUT_FILENO, b" differences\n");
+fn print<R: Print>(rt: &R, path: &str, tally: Tally) -> io::Result<()> {
+    let cases = tally.cases;
+    let differences = tally.differences;
+    println!(rt; "{path} {cases} cases {differences} differences")
+}
+
+// Room for a file of cases: of a longer one no more bytes are read.
+const SPACE: u64 = 655360;
+
+// The bytes of a file of cases.
+fn read_cases<R: Files + AllocGlobal>(rt: &R, path: &str) -> io::Result<Vec<u8>> {
+    let mut bytes = Vec::new(rt.alloc());
+    File::open(rt, path)?.take(SPACE).read_to_end(&mut bytes)?;
+    Ok(bytes)
 }
 
 // Replays the file of a call.
-fn run(call: Call, path: &[u8]) {
-    let mut buf = space();
-    let fd = os::open_read(path);
-    if fd < 0 {
-        os::fail(path);
-        return;
+fn run<R: Files + AllocGlobal + Print + Eprint>(rt: &R, call: Call, path: &str) -> io::Result<()> {
+    match read_cases(rt, path) {
+        Ok(file) => {
+            if file.len() as u64 == SPACE {
+                print!(rt; "longer than the buffer: ")?;
+            }
+            print(rt, path, replay(call, file.as_slice()))
+        }
+        Err(e) => eprintln!(rt; "{path}: {e}"),
     }
-    let n = io::read_full(fd, &mut buf);
-    libc::close(fd);
-    if n == 655360 {
-        io::write_all(STDOUT_FILENO, b"longer than the buffer: ");
-    }
-    print(path, replay(call, &buf[..n]));
 }
 
-fn main() {
-    run(Call::Tokens, b"tokens.cases");
-    run(Call::Strip, b"strip.cases");
-    run(Call::Range, b"range.cases");
-    run(Call::Info, b"info.cases");
-    run(Call::Sizes, b"sizes.cases");
-    run(Call::Damaged, b"damaged.cases");
-    run(Call::Chunks, b"chunks.cases");
-    run(Call::Packets, b"packets.cases");
-    run(Call::PlanChunks, b"plan_chunks.cases");
-    run(Call::Plan, b"plan.cases");
-    run(Call::DamagedLists, b"damaged_lists.cases");
-    run(Call::DamagedPlans, b"damaged_plans.cases");
-    run(Call::DamagedValues, b"damaged_values.cases");
-    run(Call::Lists, b"lists.cases");
-    run(Call::Dig, b"dig.cases");
-    run(Call::Plans, b"plans.cases");
-    run(Call::Sort, b"sort.cases");
+fn main(rt: HostRuntime) -> io::Result<()> {
+    run(&rt, Call::Tokens, "tokens.cases")?;
+    run(&rt, Call::Strip, "strip.cases")?;
+    run(&rt, Call::Range, "range.cases")?;
+    run(&rt, Call::Info, "info.cases")?;
+    run(&rt, Call::Sizes, "sizes.cases")?;
+    run(&rt, Call::Damaged, "damaged.cases")?;
+    run(&rt, Call::Chunks, "chunks.cases")?;
+    run(&rt, Call::Packets, "packets.cases")?;
+    run(&rt, Call::PlanChunks, "plan_chunks.cases")?;
+    run(&rt, Call::Plan, "plan.cases")?;
+    run(&rt, Call::DamagedLists, "damaged_lists.cases")?;
+    run(&rt, Call::DamagedPlans, "damaged_plans.cases")?;
+    run(&rt, Call::DamagedValues, "damaged_values.cases")?;
+    run(&rt, Call::Lists, "lists.cases")?;
+    run(&rt, Call::Dig, "dig.cases")?;
+    run(&rt, Call::Plans, "plans.cases")?;
+    run(&rt, Call::Sort, "sort.cases")
 }

@@ -19,18 +19,18 @@ use Rattle.fields.specs.declared.Written.TheVariants.{Refused as Unwritten}
 use Rattle.fields.proofs.Chains.{told-bad, told-good}
 use Rattle.fields.proofs.Lawful.{first_fine}
 use Rattle.fields.proofs.WholeFiles.{opening-fine}
-use Rattle.plans.specs.Plans.{plan as planFields, reads_of, plan_verdict}
-use Rattle.results.specs.Results.{result, results, results_of, fields_verdict, results_alike, results_verdict}
+use Rattle.plans.specs.Plans.{plan as plan_fields, reads_of, plan_verdict}
+use Rattle.results.specs.Results.{result_field, results, results_of, fields_verdict, results_alike, results_verdict}
 use Rattle.fields.specs.Files.{counts_verdict}
 use Rattle.results.specs.Sorting.{sort_verdict}
 use Rattle.results.specs.Told.{pair_count}
 use Rattle.fields.proofs.Verdicts.{told-fine}
 
 -- ---- there are as many results as the count says
-row-length : (n : ℕ) (l : List ℕ) (i : ℕ) → length (many_read result n l i).value ≡ n
+row-length : (n : ℕ) (l : List ℕ) (i : ℕ) → length (many_read result_field n l i).value ≡ n
 unfolding many_read onward joined given
 row-length zero l i = refl
-row-length (suc n) l i = ap suc (row-length n (result.read l i).rest (result.read l i).place)
+row-length (suc n) l i = ap suc (row-length n (result_field.read l i).rest (result_field.read l i).place)
 
 results-length : (s : List ℕ) → length (results_of s) ≡ value_at (number 2 65535) s 1
 unfolding results_of file_of counted leading onward joined many value_at
@@ -82,7 +82,7 @@ module _ (plan s : List ℕ) (p : ℕ) (e : told (sort_verdict plan s) (length p
       let a = first_fine (plan_verdict plan) (first (results_verdict s) (counts_verdict (length (reads_of plan)) (length (results_of s)))) accepted in
       let b = first_fine (results_verdict s) (counts_verdict (length (reads_of plan)) (length (results_of s))) a.1 in
       let c = first_fine (fields_verdict s) (results_alike (value_at (number 2 65535) s 1) s (place_at (number 2 65535) s 1)) b.0 in
-      let x = first_fine (opening_check 65536 plan) (fields_check (planFields.read (drop 1 plan) 1)) a.0 in
+      let x = first_fine (opening_check 65536 plan) (fields_check (plan_fields.read (drop 1 plan) 1)) a.0 in
       let y = first_fine (opening_check 65536 s) (fields_check (results.read (drop 1 s) 1)) c.0 in
       ((opening-fine 65536 plan x.0).0, (opening-fine 65536 s y.0).0)
 

@@ -1,7 +1,7 @@
 -- A plan of at most 65,536 bytes has less than 65,536 members, whatever the bytes: a member that is there takes two of them, and past
 -- the end of the file a read has none.
 -- Assumes nothing.
-use Prim.Native.Nat.{ℕ, zero, suc, ◌+◌, ◌-◌, ◌≤◌, ◌<◌, min}
+use Prim.Native.Nat.{ℕ, zero, suc, ◌+◌, ◌≤◌, ◌<◌, min}
 use mathlib.Core.Path.{◌≡◌, refl, sym, ap, ◌∙◌}
 use mathlib.Core.Bool.{Bool, true, false}
 use mathlib.Core.List.{List}
@@ -18,7 +18,7 @@ use Rattle.fields.proofs.Rows.{values_length, counted-place}
 use Rattle.plans.specs.Plans.{member, members, read}
 use Rattle.plans.proofs.Round.{lawful-member}
 use Rattle.plans.proofs.Places.{read_past}
-use Rattle.results.specs.Results.{result}
+use Rattle.results.specs.Results.{result_field}
 use Rattle.results.specs.Sorting.{read_entries}
 use Rattle.results.specs.Told.{reply_at, pair_count, entries_at, all_entries}
 use Rattle.results.proofs.Members.{members-at}
@@ -60,11 +60,11 @@ module _ (plan : List ℕ) where
   none-past p h = let t = (text-past-onward plan p).0 in member-count p ∙ rw (drop_past plan (named p) (omega arith))
 
   module _ (s : List ℕ) where
-    length-next : (n p q : ℕ) → length (entries_at (suc n) plan p s q) ≡ length (value_at read plan p).members + length (entries_at n plan (place_at read plan p) s (place_at result s q))
+    length-next : (n p q : ℕ) → length (entries_at (suc n) plan p s q) ≡ length (value_at read plan p).members + length (entries_at n plan (place_at read plan p) s (place_at result_field s q))
     unfolding entries_at reply_at
     length-next n p q =
-        length-append (read_entries s (reply_at s q) (value_at read plan p).members) (entries_at n plan (place_at read plan p) s (place_at result s q))
-        ∙ ap (λ k. k + length (entries_at n plan (place_at read plan p) s (place_at result s q))) (length-read s (place_at _ s q) (value_at _ s q) (value_at read plan p).members)
+        length-append (read_entries s (reply_at s q) (value_at read plan p).members) (entries_at n plan (place_at read plan p) s (place_at result_field s q))
+        ∙ ap (λ k. k + length (entries_at n plan (place_at read plan p) s (place_at result_field s q))) (length-read s (place_at _ s q) (value_at _ s q) (value_at read plan p).members)
 
     entries-past : (n p q : ℕ) → length plan ≤ p → length (entries_at n plan p s q) ≡ 0
     unfolding entries_at
@@ -73,21 +73,21 @@ module _ (plan : List ℕ) where
         let a = length-next n p q in
         let b = none-past p h in
         let o = (read-onward p).0 in
-        let c = entries-past n (place_at read plan p) (place_at result s q) (omega arith) in
+        let c = entries-past n (place_at read plan p) (place_at result_field s q) (omega arith) in
         omega arith
 
     entries-few : (n p q : ℕ) → length (entries_at n plan p s q) + length (entries_at n plan p s q) + min p (length plan) ≤ length plan + 512
     unfolding entries_at
     entries-few zero p q = omega arith
-    entries-few (suc n) p q = split (leb (length plan) (place_at read plan p)) refl (entries-few n (place_at read plan p) (place_at result s q))
+    entries-few (suc n) p q = split (leb (length plan) (place_at read plan p)) refl (entries-few n (place_at read plan p) (place_at result_field s q))
       where
         split : (b : Bool) → leb (length plan) (place_at read plan p) ≡ b
-            → length (entries_at n plan (place_at read plan p) s (place_at result s q)) + length (entries_at n plan (place_at read plan p) s (place_at result s q)) + min (place_at read plan p) (length plan) ≤ length plan + 512
+            → length (entries_at n plan (place_at read plan p) s (place_at result_field s q)) + length (entries_at n plan (place_at read plan p) s (place_at result_field s q)) + min (place_at read plan p) (length plan) ≤ length plan + 512
             → length (entries_at (suc n) plan p s q) + length (entries_at (suc n) plan p s q) + min p (length plan) ≤ length plan + 512
         split true e r =
             let h = leb-true (length plan) (place_at read plan p) e in
             let a = length-next n p q in
-            let c = entries-past n (place_at read plan p) (place_at result s q) h in
+            let c = entries-past n (place_at read plan p) (place_at result_field s q) h in
             let o = read-onward p in
             let o2 = o.2 in
             omega arith

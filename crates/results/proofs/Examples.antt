@@ -15,18 +15,18 @@ use Rattle.fields.specs.Files.{opening_check, ending_check, fields_check, file_c
 use Rattle.fields.specs.Places.{value_at, place_at, places_from}
 use Rattle.fields.specs.declared.Refusal.TheVariants.{OutOfFile, NotAllowed, CountsDiffer}
 use Rattle.plans.specs.Plans.{named, indexed, Read, step_byte, named_text, indexed_number, first_number, after_byte, step, reads_of, plan_verdict}
-use Rattle.plans.specs.Plans.{member as planMember, read as planRead, layout as plan_file}
+use Rattle.plans.specs.Plans.{member as plan_member, read as plan_read, layout as plan_file}
 use Rattle.repeats.specs.Repeats.{is_again}
 use Rattle.values.specs.Value.{Value, leaf, array, struct, no_item, item, no_member, member}
 use Rattle.values.specs.File.{runs_past, inside, enclosed, bytes_left, item_list, items_of, member_list, members_of, kind_byte, leaf_bytes, array_items, struct_members, string_bytes, items, members, after_kind, content, too_deep, value}
 use Rattle.values.specs.Alike.{past_value, kind_at, count_place, items_alike, members_alike, kind_alike, alike_within}
 use Rattle.values.specs.Dig.{count_at, first_place, item_places, name_places, find_name, member_place, item_place, step_place, dig_place}
-use Rattle.results.specs.Results.{got, failed, neither, status_byte, nothing, got_value, if_failed, if_neither, after_status, result, results_of, fields_verdict, result_alike, results_alike, results_verdict, layout}
+use Rattle.results.specs.Results.{got, failed, neither, status_byte, nothing, got_value, if_failed, if_neither, after_status, result_field, results_of, fields_verdict, result_alike, results_alike, results_verdict, layout}
 use Rattle.results.specs.Sorting.{reply_by, replies_from, replies_of, cut_or, cut_from, entry_of, has_no_path, is_plain, entries_from, all_retry, other_entries, read_entries, sorted_entries, is_retry, any_retry, is_error, is_added, failed_from, sorted_of, entry_byte, cut_place, if_retry, if_received, after_entry, entry, sorted, sorted_file, sort_verdict}
 
 -- opens every definition that the check, the reading, the layout and the sorting need
 computing : Unit {0}
-unfolding between printable lower lowered same alike is_digit value_from leading_digits and_then or_else first joined onward ◌then◌ leading mapped given many_read many_lay many held_read held_lay held flag_of among spelled digits whole limited number_check numeric number choice text_bytes text_check text_of text_rest text_past text_verdict text opens_index digits_above index_check indexed_text counted optional opening_check ending_check fields_check file_check file_of file_lay value_at place_at places_from step_byte named_text indexed_number first_number after_byte step planMember planRead reads_of plan_verdict plan_file runs_past inside enclosed bytes_left item_list items_of member_list members_of kind_byte leaf_bytes array_items struct_members string_bytes items members after_kind content too_deep value is_again past_value kind_at count_place items_alike members_alike kind_alike alike_within count_at first_place item_places name_places find_name member_place item_place step_place dig_place status_byte nothing got_value if_failed if_neither after_status result results_of fields_verdict result_alike results_alike results_verdict layout reply_by replies_from replies_of cut_or cut_from entry_of has_no_path is_plain entries_from all_retry other_entries read_entries sorted_entries is_retry any_retry is_error is_added failed_from sorted_of entry_byte cut_place if_retry if_received after_entry entry sorted sorted_file counts_verdict sort_verdict
+unfolding between printable lower lowered same alike is_digit value_from leading_digits and_then or_else first joined onward ◌then◌ leading mapped given many_read many_lay many held_read held_lay held flag_of among spelled digits whole limited number_check numeric number choice text_bytes text_check text_of text_rest text_past text_verdict text opens_index digits_above index_check indexed_text counted optional opening_check ending_check fields_check file_check file_of file_lay value_at place_at places_from step_byte named_text indexed_number first_number after_byte step plan_member plan_read reads_of plan_verdict plan_file runs_past inside enclosed bytes_left item_list items_of member_list members_of kind_byte leaf_bytes array_items struct_members string_bytes items members after_kind content too_deep value is_again past_value kind_at count_place items_alike members_alike kind_alike alike_within count_at first_place item_places name_places find_name member_place item_place step_place dig_place status_byte nothing got_value if_failed if_neither after_status result_field results_of fields_verdict result_alike results_alike results_verdict layout reply_by replies_from replies_of cut_or cut_from entry_of has_no_path is_plain entries_from all_retry other_entries read_entries sorted_entries is_retry any_retry is_error is_added failed_from sorted_of entry_byte cut_place if_retry if_received after_entry entry sorted sorted_file counts_verdict sort_verdict
 computing = tt
 
 -- ---- reads

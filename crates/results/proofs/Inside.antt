@@ -1,7 +1,7 @@
 -- A cut stands inside the results file, so its place fits the four bytes that an entry has for it.
 -- The bytes that the code puts for entries are then their layout.
 -- Assumes nothing.
-use Prim.Native.Nat.{ℕ, zero, suc, ◌+◌, ◌≤◌}
+use Prim.Native.Nat.{ℕ, zero, suc, ◌≤◌}
 use mathlib.Core.Path.{◌≡◌, refl, sym, ap, ap₂}
 use mathlib.Core.Bool.{Bool}
 use mathlib.Core.List.{List, [], ◌∷◌, ◌++◌}
@@ -20,7 +20,7 @@ use Rattle.fields.proofs.Filling.{digits-fit}
 use Rattle.plans.specs.Plans.{Step, named, indexed, first_of, Member, read}
 use Rattle.values.specs.Alike.{kind_at, count_place}
 use Rattle.values.specs.Dig.{any_value, count_at, first_place, item_places, name_places, find_name, member_place, item_place, step_place, dig_place}
-use Rattle.results.specs.Results.{nothing, result}
+use Rattle.results.specs.Results.{nothing, result_field}
 use Rattle.results.specs.Sorting.{Entry, cut, retry, received, reply_by, cut_or, cut_from, entry_of, is_plain, entries_from, all_retry, other_entries, read_entries, entry_byte, cut_place, if_retry, if_received, after_entry, entry}
 use Rattle.results.specs.Told.{shown, shown_bytes, laid, reply_at, pair_count, entries_at, all_entries}
 use Rattle.results.proofs.Onward.{number-onward, text-onward, then-onward, value-onward, result-onward, status-onward, choice-onward, places-below, below_at}
@@ -122,9 +122,9 @@ module _ (s : List ℕ) (h : length s ≤ 65536) where
   small-entries plan (suc n) p q l =
       let x = (status-onward s q).1 in
       let y = (result-onward s q).1 in
-      all_append Small (read_entries s (reply_at s q) (value_at read plan p).members) (entries_at n plan (place_at read plan p) s (place_at result s q))
+      all_append Small (read_entries s (reply_at s q) (value_at read plan p).members) (entries_at n plan (place_at read plan p) s (place_at result_field s q))
       (small-read (value_at (choice 2) s q) (place_at (choice 2) s q) (omega arith) (value_at read plan p).members)
-      (small-entries plan n (place_at read plan p) (place_at result s q) (omega arith))
+      (small-entries plan n (place_at read plan p) (place_at result_field s q) (omega arith))
 
 -- ---- the layout of entries
 lay-entry : (e : Entry) → Small e → entry.lay e ≡ shown_bytes (shown e)

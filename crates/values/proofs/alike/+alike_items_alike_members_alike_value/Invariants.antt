@@ -1,0 +1,28 @@
+-- The functions that call one another, a level less each time: what falls at each call is two for each level, and by it the way from
+-- a value to what it holds. The members' loop keeps that the first repeat of those left is the first of all: the laws in Going.
+use mathlib.Core.Path.{◌≡◌}
+use Prim.Native.Nat.{◌+◌, ◌*◌}
+use Rattle.values.proofs.Going.{Going}
+use Rattle.values.specs.Alike.{items_alike, alike_within}
+use Rattle.values.proofs.alike.+alike_items_alike_members_alike_value.Given as goal
+
+abbrev pub decreases-alike_items : goal.decreases-alike_items
+decreases-alike_items l = 2 * l.levels + 1
+
+abbrev pub decreases-alike_members : goal.decreases-alike_members
+decreases-alike_members l = 2 * l.levels + 1
+
+abbrev pub decreases-alike_value : goal.decreases-alike_value
+decreases-alike_value l = 2 * l.levels
+
+abbrev pub invariant-alike_items-loop-k : goal.invariant-alike_items-loop-k
+invariant-alike_items-loop-k l = items_alike (alike_within l.levels) l.k l.s l.at ≡ items_alike (alike_within l.levels) l.n l.s l.from
+
+abbrev pub decreases-alike_items-loop-k : goal.decreases-alike_items-loop-k
+decreases-alike_items-loop-k l = l.k
+
+abbrev pub invariant-alike_members-loop-k : goal.invariant-alike_members-loop-k
+invariant-alike_members-loop-k l = Going l.s l.levels l.from l.n l.again l.at l.k
+
+abbrev pub decreases-alike_members-loop-k : goal.decreases-alike_members-loop-k
+decreases-alike_members-loop-k l = l.k
