@@ -4,7 +4,7 @@ use mathlib.Core.Path.{◌≡◌}
 use Prim.Native.Nat.{◌+◌, ◌*◌}
 use Rattle.values.proofs.Going.{Going}
 use Rattle.values.specs.Alike.{items_alike, alike_within}
-use Rattle.values.proofs.alike.+alike_items_alike_members_alike_value.Given as goal
+use Rattle.values.proofs.alike.+value_alike.Given as goal
 
 abbrev pub decreases-alike_items : goal.decreases-alike_items
 decreases-alike_items l = 2 * l.levels + 1

@@ -7,7 +7,7 @@ use Rattle.fields.specs.Format.{many, ◌then◌}
 use Rattle.fields.specs.Fields.{text}
 use Rattle.fields.specs.Places.{check_at}
 use Rattle.values.specs.File.{value}
-use Rattle.values.proofs.check.+check_content_check_item_row_check_items_check_member_check_member_row_check_members_check_value.Given as goal
+use Rattle.values.proofs.check.+value_check.Given as goal
 
 abbrev pub decreases-check_content : goal.decreases-check_content
 decreases-check_content l = 5 * l.levels + 4

@@ -2,7 +2,7 @@ use mathlib.Core.Path.{refl}
 use native.Mathlib.Omega.{arith}
 use Rattle.values.proofs.Going.{count_most, level-none, array-checked, struct-checked, plain-checked, items-done, item_refused, item-passed, going_start, going_end, going-repeat, going-bad, going_more}
 use Rattle.values.specs.Alike.{alike_within}
-use Rattle.values.proofs.alike.+alike_items_alike_members_alike_value.Goals as goal
+use Rattle.values.proofs.alike.+value_alike.Goals as goal
 
 pub alike_items-loop-k-init : goal.alike_items-loop-k-init
 alike_items-loop-k-init t c = refl

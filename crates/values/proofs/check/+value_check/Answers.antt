@@ -7,7 +7,7 @@ use Rattle.values.proofs.Along.{row_more, along-value, along-member}
 use Rattle.values.proofs.Enclosed.{value-fits, cut-length, value-past, value-deep, value-inside}
 use Rattle.values.proofs.Closed.{content-bad, content-free, content-items, content-members}
 use Rattle.values.proofs.Counts.{items-bad, items-good, members-bad, members-good}
-use Rattle.values.proofs.check.+check_content_check_item_row_check_items_check_member_check_member_row_check_members_check_value.Goals as goal
+use Rattle.values.proofs.check.+value_check.Goals as goal
 
 pub check_content-check_items-requires : goal.check_content-check_items-requires
 check_content-check_items-requires t c = (omega arith, tt)
