@@ -30,7 +30,7 @@
 //! ones with a [`Refusal`]; a buffer that is lent to it is then as it was. Nothing here panics, whatever the bytes are. The
 //! functions that end in `_into` write to a lent buffer and allocate nothing; bytes behind the answer stay as they were. There is
 //! no state between calls, and they may run on any threads at the same time. [`sort()`] and [`dig`] take some 600 KB of stack and
-//! [`plan()`] 340 KB, so a thread should have 1 MiB at least; the standard library's threads have 2.
+//! [`plan()`] 360 KB, so a thread should have 1 MiB at least; the standard library's threads have 2.
 
 #![deny(missing_docs)]
 #![deny(unsafe_code)]
