@@ -4,7 +4,7 @@
 
 #![tactic(auto)]
 
-ghost use Rattle.std.specs.Prelude.{◌≡◌, length, ◌+◌, ◌≤◌};
+ghost use Rattle.std.specs.Prelude.{◌≡◌, length, ◌+◌, ◌≤◌, IfOk, vec_len};
 
 use crate::cases::{Call, field, input, input_count};
 use fields::check::{text_at, text_past};
@@ -28,10 +28,8 @@ use plans::write::{put_member, put_read};
 use queries::check_catalog;
 use results::sort::sort;
 use sizes::reply::{element_size, read_size};
-use std::fs::File;
-use std::io;
-use std::io::Read;
 use std::rt::Files;
+use std::{fs, io};
 use structs::whole_size;
 use values::Dug;
 use values::alike::check_value_file;
@@ -497,21 +495,23 @@ fn print<R: Print>(rt: &R, path: &str, tally: Tally) -> io::Result<()> {
     println!(rt; "{path} {cases} cases {differences} differences")
 }
 
-// Room for a file of cases: of a longer one no more bytes are read.
-const SPACE: u64 = 655360;
+// Room for a file of cases.
+const SPACE: usize = 655360;
 
-// The bytes of a file of cases.
-fn read_cases<R: Files + AllocGlobal>(rt: &R, path: &str) -> io::Result<Vec<u8>> {
-    let mut bytes = Vec::new(rt.alloc());
-    File::open(rt, path)?.take(SPACE).read_to_end(&mut bytes)?;
-    Ok(bytes)
+// The bytes of a file of cases, no more of them than there is room for.
+fn read_cases<R: Files + AllocGlobal>(rt: &R, path: &str) -> io::Result<Vec<u8>>
+    ensures { IfOk result (λ file. vec_len file ≤ 655360) }
+{
+    let mut file = fs::read(rt, path)?;
+    file.truncate(SPACE);
+    Ok(file)
 }
 
 // Replays the file of a call.
 fn run<R: Files + AllocGlobal + Print + Eprint>(rt: &R, call: Call, path: &str) -> io::Result<()> {
     match read_cases(rt, path) {
         Ok(file) => {
-            if file.len() as u64 == SPACE {
+            if file.len() == SPACE {
                 print!(rt; "longer than the buffer: ")?;
             }
             print(rt, path, replay(call, file.as_slice()))
