@@ -1,9 +1,7 @@
 pub mod Prefixes
 pub mod Sharing
 pub mod Behind
-pub mod Filled
 pub mod Firsts
-pub mod Grouping
 pub mod Heads
 pub mod Structs
 pub mod Under

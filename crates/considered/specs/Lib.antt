@@ -2,3 +2,5 @@ pub mod Levels
 pub mod Found
 pub mod Considered
 pub mod Answers
+pub mod Seen
+pub mod Columns

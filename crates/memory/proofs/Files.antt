@@ -6,7 +6,7 @@ use mathlib.Core.Path.{◌≡◌, refl, sym, ap, ◌∙◌}
 use mathlib.Core.List.{List, [], ◌∷◌, append-nil}
 use native.Mathlib.Omega.{arith}
 use lib.ListN.{length}
-use mathlib.Core.Option.{Option, none, some, map}
+use Rattle.std.specs.Prelude.{None, Option, Some, option_map}
 use Rattle.fields.specs.Format.{fine, first, given, All, ◌then◌, leading, mapped, many, held}
 use Rattle.fields.specs.Fields.{number, numeric, counted, optional}
 use Rattle.fields.specs.Files.{ending_check, fields_check}
@@ -31,12 +31,12 @@ use Rattle.memory.specs.Reading.{read_name}
 use Rattle.memory.specs.Demand.{In, here, there, keys_of, TagsFit, Answers, Shows}
 use Rattle.memory.proofs.Demand.{demand-3-accepted}
 
-some_same : (v w : Value) → ◌≡◌ {A = Option Value} (some v) (some w) → v ≡ w
+some_same : (v w : Value) → ◌≡◌ {A = Option Value} (Some v) (Some w) → v ≡ w
 some_same v w e = cc
 
 -- THEOREM (demand 3, over files, by the place of the cut)
 pub demand-3-files : (k : Cost) (c : Catalog) (w : TagList) → Acceptable c → (m : Memory) → MemoryFits c m → (r : Read) → In r (plan_of k c w) → TagsFit c r
-    → (s : List ℕ) → Bytes s → value_verdict s ≡ fine → read_name c m r.name ≡ some (value_of s) → (e : Member) → In e r.members → Answers c m s e
+    → (s : List ℕ) → Bytes s → value_verdict s ≡ fine → read_name c m r.name ≡ Some (value_of s) → (e : Member) → In e r.members → Answers c m s e
 unfolding value_verdict
 demand-3-files k c w a m h r i f s b v n e j =
     let l = demand-3-accepted k c w a m h r i f e j in
@@ -45,7 +45,7 @@ demand-3-files k c w a m h r i f s b v n e j =
     record {
       value = l.value;
       alone = l.alone;
-      cut = cut-is s b u.0 (keys_of e.path) ∙ ap (λ x. map layout (leads (keys_of e.path) x)) z ∙ ap (map layout) l.path;
+      cut = cut-is s b u.0 (keys_of e.path) ∙ ap (λ x. option_map layout (leads (keys_of e.path) x)) z ∙ ap (option_map layout) l.path;
     }
 
 -- ---- `dig` with the path as bytes
@@ -63,8 +63,8 @@ no_keys = (omega arith, (refl, tt))
 
 keys-within : (o : Option (List Step)) → (optional steps).within o → steps.within (keys_of o)
 unfolding keys_of optional leading held
-keys-within none h = no_keys
-keys-within (some ks) h = h.1.1
+keys-within None h = no_keys
+keys-within (Some ks) h = h.1.1
 
 in_all : {A : Type 0} (P : A → Type 0) (x : A) (xs : List A) → All P xs → In x xs → P x
 in_all {A = A} P x [] h x3 = elim x3 [ ]
@@ -84,7 +84,7 @@ path-within k c w h n r i e j =
 -- carries it, hands back byte for byte the value that reading the path's tag alone gives, as a file lays it out
 pub demand-3-dug : (k : Cost) (c : Catalog) (w : TagList) → Acceptable c → tag_list.within w → length (list_layout w) ≤ longest_list
     → (m : Memory) → MemoryFits c m → (r : Read) → In r (plan_of k c w) → TagsFit c r
-    → (s : List ℕ) → Bytes s → value_verdict s ≡ fine → read_name c m r.name ≡ some (value_of s) → (e : Member) → In e r.members → Shows c m s e
+    → (s : List ℕ) → Bytes s → value_verdict s ≡ fine → read_name c m r.name ≡ Some (value_of s) → (e : Member) → In e r.members → Shows c m s e
 unfolding dig_verdict cut_of cut_bytes first
 demand-3-dug k c w a h n m f r i g s b v x e j =
     let l = demand-3-accepted k c w a m f r i g e j in

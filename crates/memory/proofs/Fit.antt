@@ -5,7 +5,7 @@ use native.Mathlib.Omega.{arith}
 use mathlib.Core.Path.{◌≡◌, refl, subst}
 use mathlib.Core.Bool.{Bool, true, false, cond, false≢true, true≢false}
 use mathlib.Core.List.{List, [], ◌∷◌}
-use mathlib.Core.Option.{Option, none, some}
+use Rattle.std.specs.Prelude.{None, Option, Some}
 use lib.Dec.{ltb}
 use borrow.Author.Tests.{ltb-true}
 use Rattle.fields.specs.Text.{Text, bytes, lowered, same, alike}
@@ -27,7 +27,7 @@ use Rattle.memory.specs.Reading.{member_of, item_of, item_along, value_behind, v
 -- what reading gave is a value that fits the node
 pub record Found (c : Catalog) (r : Option Value) (n : Node) : Type 0 where
   pub value : Value
-  pub is : r ≡ some value
+  pub is : r ≡ Some value
   pub fits : Fits c value (shape_of c n)
 
 pub found-then : (c : Catalog) (o : Option Value) (f : Value → Option Value) (n k : Node) → Found c o n
@@ -48,16 +48,16 @@ unfolding alike
 alike-swap s t = same-swap (lowered s) (lowered t)
 
 -- what holds of each node holds of the one that a name finds
-pub each-called : (P : Node → Type 0) (t : Text) (ns : List Node) (n : Node) → All P ns → called_in t ns ≡ some n → P n
+pub each-called : (P : Node → Type 0) (t : Text) (ns : List Node) (n : Node) → All P ns → called_in t ns ≡ Some n → P n
 unfolding called_in find
 each-called P t [] n h e = absurd (none-some e)
 each-called P t (x ∷ ns) n h e = go (is_called t x) e (each-called P t ns n h.1)
   where
-    go : (b : Bool) → cond b (some x) (called_in t ns) ≡ some n → (called_in t ns ≡ some n → P n) → P n
+    go : (b : Bool) → cond b (Some x) (called_in t ns) ≡ Some n → (called_in t ns ≡ Some n → P n) → P n
     go true q r = subst P (some_is q) h.0
     go false q r = r q
 
-member-found : (c : Catalog) (t : Text) (ms : Members) (ns : List Node) (n : Node) → FitsMembers c ms ns → called_in t ns ≡ some n
+member-found : (c : Catalog) (t : Text) (ms : Members) (ns : List Node) (n : Node) → FitsMembers c ms ns → called_in t ns ≡ Some n
     → Found c (first_member (alike t) ms) n
 unfolding called_in find first_member is_called
 member-found c t (one_member k v ms) [] n x4 e = elim x4 [ ]
@@ -66,13 +66,13 @@ member-found c t no_member [] n fits_no_member e = absurd (none-some e)
 member-found c t (one_member k v ms) (x ∷ ns) n (fits_member _ _ _ _ _ i h hs) e =
     rw (i, alike-swap t x.name) (go (alike x.name t) e (member-found c t ms ns n hs))
   where
-    go : (b : Bool) → cond b (some x) (called_in t ns) ≡ some n → (called_in t ns ≡ some n → Found c (first_member (alike t) ms) n)
-        → Found c (cond b (some v) (first_member (alike t) ms)) n
+    go : (b : Bool) → cond b (Some x) (called_in t ns) ≡ Some n → (called_in t ns ≡ Some n → Found c (first_member (alike t) ms) n)
+        → Found c (cond b (Some v) (first_member (alike t) ms)) n
     go true q r = record { value = v; is = refl; fits = subst (λ k. Fits c v (shape_of c k)) (some_is q) h }
     go false q r = r q
 
 -- a name leads to the member
-named-found : (c : Catalog) (v : Value) (s : Shape) → Fits c v s → (t : Text) (o : Node) → member_in s t ≡ some o → Found c (member_of v t) o
+named-found : (c : Catalog) (v : Value) (s : Shape) → Fits c v s → (t : Text) (o : Node) → member_in s t ≡ Some o → Found c (member_of v t) o
 unfolding member_in member_of
 named-found c (array vs) (leaf_of z) x3 t o e = elim x3 [ ]
 named-found c (array vs) (struct_of ns) x6 t o e = elim x6 [ ]
@@ -166,12 +166,12 @@ items-found c n b (i ∷ is) (d ∷ ds) v h e = go (ltb i d) refl e (λ w f q. i
         (item-of-found c v d (sided n ds) i (rw (array_shape c n d ds b) at h) (ltb-true i d l)) (λ w f. r w f q)
     go false l q r = absurd (false≢true q)
 
-bracket-found : (c : Catalog) (n : Node) (is : List ℕ) (v : Value) (o : Node) → Fits c v (shape_of c n) → indexed_by n is ≡ some o
+bracket-found : (c : Catalog) (n : Node) (is : List ℕ) (v : Value) (o : Node) → Fits c v (shape_of c n) → indexed_by n is ≡ Some o
     → Found c (item_along v is) o
 unfolding indexed_by sided
 bracket-found c n is v o h e = go (any (same n.type_name) bit_types) refl (is_below is n.dims) refl e
   where
-    go : (b : Bool) → any (same n.type_name) bit_types ≡ b → (w : Bool) → is_below is n.dims ≡ w → cond b none (cond w (some (sided n [])) none) ≡ some o
+    go : (b : Bool) → any (same n.type_name) bit_types ≡ b → (w : Bool) → is_below is n.dims ≡ w → cond b None (cond w (Some (sided n [])) None) ≡ Some o
         → Found c (item_along v is) o
     go true b w l q = absurd (none-some q)
     go false b true l q = subst (Found c (item_along v is)) (some_is q) (items-found c n b is n.dims v h l)
@@ -179,14 +179,14 @@ bracket-found c n is v o h e = go (any (same n.type_name) bit_types) refl (is_be
 
 -- ---- tokens
 -- a key that leads to a node leads to a value that fits it
-pub step-found : (c : Catalog) (n : Node) (k : Key) (v : Value) (o : Node) → Fits c v (shape_of c n) → node_behind c n k ≡ some o
+pub step-found : (c : Catalog) (n : Node) (k : Key) (v : Value) (o : Node) → Fits c v (shape_of c n) → node_behind c n k ≡ Some o
     → Found c (value_behind v k) o
 unfolding node_behind value_behind item_along
 step-found c n (member t) v o h e = named-found c v (shape_of c n) h t o e
 step-found c n (item i) v o h e = rw (← then_id (item_of v i)) (bracket-found c n (i ∷ []) v o h e)
 step-found c n (several is) v o h e = bracket-found c n is v o h e
 
-pub along-found : (c : Catalog) (ts : List Token) (n : Node) (v : Value) (o : Node) → Fits c v (shape_of c n) → node_along c n ts ≡ some o
+pub along-found : (c : Catalog) (ts : List Token) (n : Node) (v : Value) (o : Node) → Fits c v (shape_of c n) → node_along c n ts ≡ Some o
     → Found c (value_along v ts) o
 unfolding node_along value_along
 along-found c [] n v o h e = record { value = v; is = refl; fits = subst (λ k. Fits c v (shape_of c k)) (some_is e) h }
@@ -196,13 +196,13 @@ along-found c (t ∷ ts) n v o h e =
     (λ w f. along-found c ts s.value w o f s.on)
 
 -- the value of a catalog tag
-base-found : (c : Catalog) (m : Memory) (t : Text) (n : Node) → MemoryFits c m → called_in t c.tags ≡ some n → Found c (base_value c m t) n
+base-found : (c : Catalog) (m : Memory) (t : Text) (n : Node) → MemoryFits c m → called_in t c.tags ≡ Some n → Found c (base_value c m t) n
 unfolding base_value and_then
 base-found c m t n h e =
     rw e (record { value = m n; is = refl; fits = each-called (λ k. Fits c (m k) (shape_of c k)) t c.tags n h.each e })
 
 -- THEOREM: tokens that lead to a node read to a value, which fits the node
-pub read_found : (c : Catalog) (m : Memory) → MemoryFits c m → (ts : List Token) (n : Node) → node_of c ts ≡ some n → Found c (read_tokens c m ts) n
+pub read_found : (c : Catalog) (m : Memory) → MemoryFits c m → (ts : List Token) (n : Node) → node_of c ts ≡ Some n → Found c (read_tokens c m ts) n
 unfolding node_of read_tokens
 read_found c m h [] n e = absurd (none-some e)
 read_found c m h (b ∷ ts) n e =
@@ -214,12 +214,12 @@ read_found c m h (b ∷ ts) n e =
 -- the node of a tag that fits
 pub record FitNode (c : Catalog) (t : Text) : Type 0 where
   pub node : Node
-  pub is : node_of c (tokens_of t) ≡ some node
+  pub is : node_of c (tokens_of t) ≡ Some node
 
 pub tag-node : (c : Catalog) (t : Text) → tag_fits c t ≡ true → FitNode c t
 unfolding tag_fits holds
 tag-node c t e = go (node_of c (tokens_of t)) refl e
   where
     go : (o : Option Node) → node_of c (tokens_of t) ≡ o → holds (λ n. is_empty n.dims) o ≡ true → FitNode c t
-    go none q f = absurd (false≢true f)
-    go (some n) q f = record { node = n; is = q }
+    go None q f = absurd (false≢true f)
+    go (Some n) q f = record { node = n; is = q }

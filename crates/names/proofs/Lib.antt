@@ -1,3 +1,4 @@
+pub mod Scanning
 pub mod Bracing
 pub mod Bytes
 pub mod Casing

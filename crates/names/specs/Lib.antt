@@ -5,3 +5,4 @@ pub mod Range
 pub mod Steps
 pub mod Listing
 pub mod Told
+pub mod Left

@@ -3,6 +3,8 @@ pub mod Links
 pub mod Members
 pub mod Resolving
 pub mod Reaching
+pub mod Rows
+pub mod Setting
 pub mod Rounds
 pub mod Walking
 pub mod Markings

@@ -1,4 +1,5 @@
 pub mod Steps
+pub mod Pairs
 pub mod Sizing
 pub mod Checking
 pub mod Counting

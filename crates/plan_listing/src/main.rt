@@ -3,7 +3,7 @@
 
 #![tactic(auto)]
 
-use fields::check::{text_at, text_past};
+use fields::check::{part_at, text_past};
 use fields::number::{number_at, past, raw};
 use fields::{Checked, Refusal, Width, Written};
 use groups::plan_chunks;
@@ -78,7 +78,7 @@ fn read_file<R: Files + AllocGlobal + Eprint>(
 
 // Prints the text at a place.
 fn print_text(out: &mut impl Write, s: &[u8], at: usize) -> io::Result<()> {
-    let t = text_at(s, at);
+    let t = part_at(s, at);
     out.write_all(&s[t.start..t.end])
 }
 
@@ -178,8 +178,8 @@ fn print_plan(out: &mut impl Write, s: &[u8], groups: &[u8]) -> io::Result<()> {
 // Whether a file is accepted; where it is not, the refusal is printed behind the file's kind.
 fn is_accepted(out: &mut impl Write, kind: &str, v: Checked) -> io::Result<bool> {
     match v {
-        Checked::Good(_) => Ok(true),
-        Checked::Refused(r) => {
+        Ok(_) => Ok(true),
+        Err(r) => {
             print_refusal(out, kind, r)?;
             Ok(false)
         }
@@ -191,8 +191,8 @@ fn print_groups(out: &mut impl Write, catalog: &[u8], file: &[u8], packet: u16) 
     let mut groups = [0; 2048];
     let w = plan_chunks(catalog, file, packet, &mut groups);
     match w {
-        Written::Refused(r) => print_refusal(out, "groups", r),
-        Written::Done(_) => print_plan(out, file, &groups),
+        Err(r) => print_refusal(out, "groups", r),
+        Ok(_) => print_plan(out, file, &groups),
     }
 }
 
@@ -221,8 +221,8 @@ fn show(out: &mut impl Write, catalog: &[u8], list: &[u8]) -> io::Result<()> {
     let mut buffer = [0; 65536];
     let w = plan(catalog, list, &mut buffer);
     match w {
-        Written::Refused(r) => print_refusal(out, "plan", r),
-        Written::Done(n) => print_made(out, catalog, &buffer, n, budget(list)),
+        Err(r) => print_refusal(out, "plan", r),
+        Ok(n) => print_made(out, catalog, &buffer, n, budget(list)),
     }
 }
 

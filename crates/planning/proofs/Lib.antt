@@ -11,14 +11,12 @@ pub mod Views
 pub mod Gathered
 pub mod Entries
 pub mod Positions
-pub mod Flagging
 pub mod Keys
 pub mod Offers
 pub mod Weighing
 pub mod Applying
 pub mod Looking
 pub mod Turning
-pub mod Tabled
 pub mod Settling
 pub mod Columnwise
 pub mod Reckoned

@@ -1,5 +1,6 @@
 pub mod Access
 pub mod Examples
+pub mod Keys
 pub mod Places
 pub mod Round
 pub mod Steps

@@ -1,2 +1,3 @@
 pub mod Plans
 pub mod Access
+pub mod Seamless

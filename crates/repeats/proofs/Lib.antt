@@ -1,10 +1,6 @@
 pub mod Answer
 pub mod Examples
-pub mod Filling
-pub mod Merging
 pub mod Naming
 pub mod Neighbours
+pub mod Numbers
 pub mod Order
-pub mod Sorting
-pub mod Tables
-pub mod Taking

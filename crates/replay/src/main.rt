@@ -7,18 +7,15 @@
 ghost use Rattle.std.specs.Prelude.{◌≡◌, length, ◌+◌, ◌≤◌, IfOk, vec_len};
 
 use crate::cases::{Call, field, input, input_count};
-use fields::check::{text_at, text_past};
+use fields::check::{part_at, text_past};
 use fields::number::{number_at, past, raw};
 use fields::text::equal;
 use fields::write::{put_bytes, put_number};
 use fields::{Checked, Part, Width, Written};
 use groups::plan_chunks;
 use lists::check::check_list;
-use lookup::Bytes;
 use lookup::info::info;
-use nodes::Found;
 use nodes::place::node_past;
-use packing::Counted;
 use packing::chunk::chunks;
 use packing::table::packets;
 use planning::plan::plan;
@@ -31,7 +28,6 @@ use sizes::reply::{element_size, read_size};
 use std::rt::Files;
 use std::{fs, io};
 use structs::whole_size;
-use values::Dug;
 use values::alike::check_value_file;
 use values::cut::dig_place;
 
@@ -75,8 +71,8 @@ fn untouched(out: &[u8], from: usize) -> bool {
 // Whether a call wrote the stored answer, and nothing behind it.
 fn wrote(w: Written, out: &[u8], answer: &[u8]) -> bool {
     match w {
-        Written::Refused(_) => false,
-        Written::Done(n) => {
+        Err(_) => false,
+        Ok(n) => {
             if out.len() < n {
                 return false;
             }
@@ -92,11 +88,11 @@ fn wrote(w: Written, out: &[u8], answer: &[u8]) -> bool {
 fn put_info(catalog: &[u8], name: &[u8], out: &mut [u8]) -> usize {
     let found = info(catalog, name);
     match found {
-        Found::Nowhere => {
+        None => {
             put_number(out, 0, Width::One, 0);
             1
         }
-        Found::At(p) => {
+        Some(p) => {
             let start = text_past(catalog, p);
             let end = node_past(catalog, p);
             if end < start {
@@ -113,16 +109,16 @@ fn put_info(catalog: &[u8], name: &[u8], out: &mut [u8]) -> usize {
 }
 
 // Writes a size at a place: 0 where it is unknown; or 1 and 8 bytes. It answers the place past it.
-fn put_size(out: &mut [u8], at: usize, size: Bytes) -> usize
+fn put_size(out: &mut [u8], at: usize, size: Option<u64>) -> usize
     requires { at ≤ 100 }
     ensures { result ≤ at + 9 }
 {
     match size {
-        Bytes::Unknown => {
+        None => {
             put_number(out, at, Width::One, 0);
             at + 1
         }
-        Bytes::Known(n) => {
+        Some(n) => {
             put_number(out, at, Width::One, 1);
             put_number(out, at + 1, Width::Eight, n);
             at + 9
@@ -142,11 +138,11 @@ fn put_sizes(catalog: &[u8], name: &[u8], out: &mut [u8]) -> usize {
 // Writes what the check of a file answers: the number of the refusal and what it returns, both 0 where there is none.
 fn put_verdict(v: Checked, out: &mut [u8]) -> usize {
     match v {
-        Checked::Good(_) => {
+        Ok(_) => {
             put_number(out, 0, Width::One, 0);
             put_number(out, 1, Width::Eight, 0);
         }
-        Checked::Refused(r) => {
+        Err(r) => {
             put_number(out, 0, Width::One, r.number() as u64);
             put_number(out, 1, Width::Eight, r.returned() as u64);
         }
@@ -182,14 +178,9 @@ fn put_packets(requests: &[u8], replies: &[u8], budget: &[u8], out: &mut [u8]) -
     let n = read_table(requests, &mut t);
     let m = read_table(replies, &mut u);
     let b = (raw(budget, 0, Width::Two) % 65536) as u16;
-    let counted = packets(&t[..n], &u[..m], b);
-    match counted {
-        Counted::Refused(r) => Written::Refused(r),
-        Counted::Packets(n) => {
-            put_number(out, 0, Width::Eight, n);
-            Written::Done(8)
-        }
-    }
+    let n = packets(&t[..n], &u[..m], b)?;
+    put_number(out, 0, Width::Eight, n);
+    Ok(8)
 }
 
 // The groups of a plan's reads, by the catalog.
@@ -200,18 +191,9 @@ fn put_plan_chunks(catalog: &[u8], plan: &[u8], budget: &[u8], out: &mut [u8]) -
 
 // Writes the place that a path leads to in a value file, in 8 bytes: 0 where it leads nowhere.
 fn put_dig(value: &[u8], path: &[u8], out: &mut [u8]) -> Written {
-    let d = dig_place(value, path);
-    match d {
-        Dug::Refused(r) => Written::Refused(r),
-        Dug::NotThere => {
-            put_number(out, 0, Width::Eight, 0);
-            Written::Done(8)
-        }
-        Dug::At(start, _) => {
-            put_number(out, 0, Width::Eight, start as u64);
-            Written::Done(8)
-        }
-    }
+    let place = dig_place(value, path)?.map_or(0, |part| part.start);
+    put_number(out, 0, Width::Eight, place as u64);
+    Ok(8)
 }
 
 // The call itself.
@@ -220,16 +202,16 @@ fn made(call: Call, first: &[u8], second: &[u8], third: &[u8], out: &mut [u8]) -
         Call::Tokens => names::listing::tokenize(first, out),
         Call::Strip => names::strip::strip(first, out),
         Call::Range => names::listing::list_range(first, out),
-        Call::Info => Written::Done(put_info(first, second, out)),
-        Call::Sizes => Written::Done(put_sizes(first, second, out)),
-        Call::Damaged => Written::Done(put_verdict(check_catalog(first), out)),
+        Call::Info => Ok(put_info(first, second, out)),
+        Call::Sizes => Ok(put_sizes(first, second, out)),
+        Call::Damaged => Ok(put_verdict(check_catalog(first), out)),
         Call::Chunks => put_chunks(first, second, third, out),
         Call::Packets => put_packets(first, second, third, out),
         Call::PlanChunks => put_plan_chunks(first, second, third, out),
         Call::Plan => plan(first, second, out),
-        Call::DamagedLists => Written::Done(put_verdict(check_list(first), out)),
-        Call::DamagedPlans => Written::Done(put_verdict(check_plan(first), out)),
-        Call::DamagedValues => Written::Done(put_verdict(check_value_file(first), out)),
+        Call::DamagedLists => Ok(put_verdict(check_list(first), out)),
+        Call::DamagedPlans => Ok(put_verdict(check_plan(first), out)),
+        Call::DamagedValues => Ok(put_verdict(check_value_file(first), out)),
         Call::Lists => put_list(first, out),
         Call::Dig => put_dig(first, second, out),
         Call::Plans => put_plan(first, out),
@@ -264,8 +246,8 @@ fn wants_catalog(call: Call) -> bool {
 fn is_catalog(catalog: &[u8]) -> bool {
     let v = check_catalog(catalog);
     match v {
-        Checked::Good(_) => true,
-        Checked::Refused(_) => false,
+        Ok(_) => true,
+        Err(_) => false,
     }
 }
 
@@ -344,18 +326,13 @@ fn put_row(s: &[u8], row: Row, out: &mut [u8], from: usize) -> usize {
 
 // The list anew, if it is accepted.
 fn put_list(s: &[u8], out: &mut [u8]) -> Written {
-    let v = check_list(s);
-    match v {
-        Checked::Refused(r) => Written::Refused(r),
-        Checked::Good(_) => {
-            put_number(out, 0, Width::One, 1);
-            put_number(out, 1, Width::Four, lists::read::whole_max(s) as u64);
-            put_number(out, 5, Width::Two, lists::read::budget(s) as u64);
-            let together = put_row(s, Row::NoGroup, out, 7);
-            let tags = put_row(s, Row::Together, out, together);
-            Written::Done(put_row(s, Row::Tags, out, tags))
-        }
-    }
+    check_list(s)?;
+    put_number(out, 0, Width::One, 1);
+    put_number(out, 1, Width::Four, lists::read::whole_max(s) as u64);
+    put_number(out, 5, Width::Two, lists::read::budget(s) as u64);
+    let together = put_row(s, Row::NoGroup, out, 7);
+    let tags = put_row(s, Row::Together, out, together);
+    Ok(put_row(s, Row::Tags, out, tags))
 }
 
 // Where the path of the member at a place stands, key count and keys: nothing where it has none.
@@ -378,7 +355,7 @@ fn path_at(s: &[u8], at: usize) -> Part
 
 // Writes the member at a place of the plan. It answers the place past what is written; the same place where it does not fit.
 fn copy_member(s: &[u8], from: usize, out: &mut [u8], at: usize) -> usize {
-    let tag = text_at(s, from);
+    let tag = part_at(s, from);
     let a = tag.start;
     let b = tag.end;
     let path = path_at(s, from);
@@ -414,7 +391,7 @@ fn copy_members(s: &[u8], from: usize, count: usize, out: &mut [u8], start: usiz
 
 // Writes the read at a place of the plan, with its members. It answers the place past them; the same place where it does not fit.
 fn copy_read(s: &[u8], from: usize, out: &mut [u8], at: usize) -> usize {
-    let name = text_at(s, from);
+    let name = part_at(s, from);
     let a = name.start;
     let b = name.end;
     let p = text_past(s, from);
@@ -446,16 +423,11 @@ fn copy_reads(s: &[u8], count: usize, out: &mut [u8]) -> usize {
 
 // The plan anew, if it is accepted.
 fn put_plan(s: &[u8], out: &mut [u8]) -> Written {
-    let v = check_plan(s);
-    match v {
-        Checked::Refused(r) => Written::Refused(r),
-        Checked::Good(_) => {
-            let count = read_count(s);
-            put_number(out, 0, Width::One, 1);
-            put_number(out, 1, Width::Two, count as u64);
-            Written::Done(copy_reads(s, count, out))
-        }
-    }
+    check_plan(s)?;
+    let count = read_count(s);
+    put_number(out, 0, Width::One, 1);
+    put_number(out, 1, Width::Two, count as u64);
+    Ok(copy_reads(s, count, out))
 }
 
 // The cases of a file: up to three inputs and an answer each.

@@ -13,9 +13,7 @@ use Rattle.fields.specs.Places.{value_at, place_at, told}
 use Rattle.fields.specs.Writing.{writing, buffer}
 use Rattle.fields.specs.declared.Refusal.{Refusal}
 use Rattle.fields.specs.declared.Refusal.TheVariants.{CountsDiffer}
-use Rattle.fields.specs.declared.Checked.TheVariants.{Good, Refused}
-use Rattle.fields.specs.declared.Written.{Written}
-use Rattle.fields.specs.declared.Written.TheVariants.{Refused as Unwritten}
+use Rattle.std.specs.Prelude.{Err, Ok, Result}
 use Rattle.fields.proofs.Chains.{told-bad, told-good}
 use Rattle.fields.proofs.Lawful.{first_fine}
 use Rattle.fields.proofs.WholeFiles.{opening-fine}
@@ -41,38 +39,38 @@ module _ (plan s : List ℕ) where
   abbrev counts : Verdict
   counts = counts_verdict (length (reads_of plan)) (length (results_of s))
 
-  pub plan-refused : (r : Refusal) → told (plan_verdict plan) (length plan) ≡ Refused r → Refused r ≡ told (sort_verdict plan s) (length plan)
+  pub plan-refused : (r : Refusal) → told (plan_verdict plan) (length plan) ≡ Err r → Err r ≡ told (sort_verdict plan s) (length plan)
   unfolding sort_verdict
   plan-refused r e = sym (told-bad (plan_verdict plan) (first (results_verdict s) counts) (length plan) (length plan) r e)
 
-  module _ (p : ℕ) (e : told (plan_verdict plan) (length plan) ≡ Good p) where
+  module _ (p : ℕ) (e : told (plan_verdict plan) (length plan) ≡ Ok p) where
     behind-plan : told (sort_verdict plan s) (length plan) ≡ told (first (results_verdict s) counts) (length plan)
     unfolding sort_verdict
     behind-plan = (told-good (plan_verdict plan) (first (results_verdict s) counts) (length plan) (length plan) p e).0
 
-    pub results-refused : (r : Refusal) → told (results_verdict s) (length s) ≡ Refused r → Refused r ≡ told (sort_verdict plan s) (length plan)
+    pub results-refused : (r : Refusal) → told (results_verdict s) (length s) ≡ Err r → Err r ≡ told (sort_verdict plan s) (length plan)
     results-refused r f = sym (behind-plan ∙ told-bad (results_verdict s) counts (length s) (length plan) r f)
 
     -- `n` reads and `m` results
-    module _ (q : ℕ) (f : told (results_verdict s) (length s) ≡ Good q) (n m : ℕ) (a : n ≡ length (reads_of plan)) (b : m ≡ value_at (number 2 65535) s 1) where
+    module _ (q : ℕ) (f : told (results_verdict s) (length s) ≡ Ok q) (n m : ℕ) (a : n ≡ length (reads_of plan)) (b : m ≡ value_at (number 2 65535) s 1) where
       behind-results : told (sort_verdict plan s) (length plan) ≡ told (counts_verdict n m) (length plan)
       behind-results =
           behind-plan ∙ (told-good (results_verdict s) counts (length s) (length plan) q f).0
           ∙ ap₂ (λ x y. told (counts_verdict x y) (length plan)) (sym a) (results-length s ∙ sym b)
 
-      pub counts_same : n ≡ m → Good (length plan) ≡ told (sort_verdict plan s) (length plan)
+      pub counts_same : n ≡ m → Ok (length plan) ≡ told (sort_verdict plan s) (length plan)
       unfolding counts_verdict told
-      counts_same z = let w : told (counts_verdict n m) (length plan) ≡ Good (length plan) = rw (eq-eqb n m z) in sym (behind-results ∙ w)
+      counts_same z = let w : told (counts_verdict n m) (length plan) ≡ Ok (length plan) = rw (eq-eqb n m z) in sym (behind-results ∙ w)
 
-      pub counts-differ : (n ≡ m → ⊥) → n ≡ value_at (number 2 256) plan 1 → (k : ℕ) → k ≡ pair_count plan s → Refused (CountsDiffer k) ≡ told (sort_verdict plan s) (length plan)
+      pub counts-differ : (n ≡ m → ⊥) → n ≡ value_at (number 2 256) plan 1 → (k : ℕ) → k ≡ pair_count plan s → Err (CountsDiffer k) ≡ told (sort_verdict plan s) (length plan)
       unfolding counts_verdict told pair_count
       counts-differ z c k g =
-          let w : told (counts_verdict n m) (length plan) ≡ Refused (CountsDiffer (min n m)) = rw (ne_eqb n m z) in
+          let w : told (counts_verdict n m) (length plan) ≡ Err (CountsDiffer (min n m)) = rw (ne_eqb n m z) in
           let x : k ≡ min n m = g ∙ ap₂ min (sym c) (sym b) in
-          ap (λ j. Refused (CountsDiffer j)) x ∙ sym (behind-results ∙ w)
+          ap (λ j. Err (CountsDiffer j)) x ∙ sym (behind-results ∙ w)
 
 -- ---- files that are accepted are not over their limits
-module _ (plan s : List ℕ) (p : ℕ) (e : told (sort_verdict plan s) (length plan) ≡ Good p) where
+module _ (plan s : List ℕ) (p : ℕ) (e : told (sort_verdict plan s) (length plan) ≡ Ok p) where
   accepted : sort_verdict plan s ≡ fine
   accepted = told-fine (sort_verdict plan s) (length plan) p e
 
@@ -86,11 +84,11 @@ module _ (plan s : List ℕ) (p : ℕ) (e : told (sort_verdict plan s) (length p
       let y = first_fine (opening_check 65536 s) (fields_check (results.read (drop 1 s) 1)) c.0 in
       ((opening-fine 65536 plan x.0).0, (opening-fine 65536 s y.0).0)
 
-  pub accepted-written : (r : Written) (file old : List ℕ) → r ≡ writing fine file old → r ≡ writing (sort_verdict plan s) file old
+  pub accepted-written : (r : Result ℕ Refusal) (file old : List ℕ) → r ≡ writing fine file old → r ≡ writing (sort_verdict plan s) file old
   accepted-written r file old d = rw accepted d
 
 -- ---- files that are refused leave the buffer as it was
-pub unwritten : (v : Verdict) (p : ℕ) (r : Refusal) (file old : List ℕ) → told v p ≡ Refused r → (Unwritten r ≡ writing v file old) × (old ≡ buffer (Unwritten r) file old)
+pub unwritten : (v : Verdict) (p : ℕ) (r : Refusal) (file old : List ℕ) → told v p ≡ Err r → (Err r ≡ writing v file old) × (old ≡ buffer (Err r) file old)
 unfolding told writing buffer
 unwritten fine p r file old e = let z : ◌≡◌ {A = ℕ} 0 1 = cc in absurd (omega arith)
-unwritten (bad x) p r file old e = let z : x ≡ r = cc in (ap Unwritten (sym z), refl)
+unwritten (bad x) p r file old e = let z : x ≡ r = cc in (ap Err (sym z), refl)

@@ -4,7 +4,7 @@
 use Prim.Native.Nat.{ℕ}
 use mathlib.Core.Path.{◌≡◌, refl}
 use mathlib.Core.List.{List, [], ◌∷◌, ◌++◌}
-use mathlib.Core.Option.{none, some}
+use Rattle.std.specs.Prelude.{None, Some}
 use lib.ListN.{set}
 use Rattle.fields.specs.Text.{bytes, between, printable, lower, lowered, same, alike}
 use Rattle.fields.specs.Decimal.{is_digit, value_from, leading_digits}
@@ -32,15 +32,15 @@ computing = tt
 -- ---- reads
 -- its only member has byte 0
 abbrev plain : Read
-plain = record { name = bytes "A"; members = record { tag = bytes "A"; path = none } ∷ [] }
+plain = record { name = bytes "A"; members = record { tag = bytes "A"; path = None } ∷ [] }
 
 -- two members, each with a path of one name
 abbrev motor : Read
-motor = record { name = bytes "Motor"; members = record { tag = bytes "Motor.Speed"; path = some (named (bytes "Speed") ∷ []) } ∷ record { tag = bytes "Motor.Amps"; path = some (named (bytes "Amps") ∷ []) } ∷ [] }
+motor = record { name = bytes "Motor"; members = record { tag = bytes "Motor.Speed"; path = Some (named (bytes "Speed") ∷ []) } ∷ record { tag = bytes "Motor.Amps"; path = Some (named (bytes "Amps") ∷ []) } ∷ [] }
 
 -- a member with byte 0, and one with a path
 abbrev mixed : Read
-mixed = record { name = bytes "T"; members = record { tag = bytes "T"; path = none } ∷ record { tag = bytes "T[1]"; path = some (indexed 1 ∷ []) } ∷ [] }
+mixed = record { name = bytes "T"; members = record { tag = bytes "T"; path = None } ∷ record { tag = bytes "T[1]"; path = Some (indexed 1 ∷ []) } ∷ [] }
 
 -- ---- values
 abbrev seven : Value

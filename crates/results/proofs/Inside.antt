@@ -5,7 +5,7 @@ use Prim.Native.Nat.{ℕ, zero, suc, ◌≤◌}
 use mathlib.Core.Path.{◌≡◌, refl, sym, ap, ap₂}
 use mathlib.Core.Bool.{Bool}
 use mathlib.Core.List.{List, [], ◌∷◌, ◌++◌}
-use mathlib.Core.Option.{Option, none, some}
+use Rattle.std.specs.Prelude.{None, Option, Some}
 use native.Mathlib.Omega.{arith}
 use lib.Dec.{ltb, eqb}
 use lib.ListN.{length}
@@ -27,18 +27,18 @@ use Rattle.results.proofs.Onward.{number-onward, text-onward, then-onward, value
 
 -- ---- a walk stays below a bound that the file does not pass
 abbrev Below : ℕ → Option ℕ → Type 0
-Below b none = Unit {0}
-Below b (some q) = q ≤ b
+Below b None = Unit {0}
+Below b (Some q) = q ≤ b
 
 below_then : (b : ℕ) (o : Option ℕ) (f : ℕ → Option ℕ) → Below b o → ((q : ℕ) → q ≤ b → Below b (f q)) → Below b (and_then o f)
 unfolding and_then
-below_then b none f h g = tt
-below_then b (some q) f h g = g q h
+below_then b None f h g = tt
+below_then b (Some q) f h g = g q h
 
 below-else : (b : ℕ) (x y : Option ℕ) → Below b x → Below b y → Below b (or_else x y)
 unfolding or_else
-below-else b none y h g = g
-below-else b (some q) y h g = h
+below-else b None y h g = g
+below-else b (Some q) y h g = h
 
 module _ (s : List ℕ) (b : ℕ) (h : length s ≤ b) where
   first_below : (p : ℕ) → p ≤ b → first_place s p ≤ b
@@ -85,16 +85,16 @@ Small received = Unit {0}
 
 small_cut : (o : Option ℕ) → Below 65536 o → Small (cut_or o)
 unfolding cut_or
-small_cut none h = tt
-small_cut (some q) h = h
+small_cut None h = tt
+small_cut (Some q) h = h
 
 module _ (s : List ℕ) (h : length s ≤ 65536) where
   small-entry : (k at : ℕ) → at ≤ 65536 → (o : Option (List Step)) → Small (entry_of s (reply_by k at) o)
   unfolding entry_of cut_from reply_by
-  small-entry k at l none = tt
-  small-entry zero at l (some ks) = small_cut (dig_place s ks at) (dig-below s 65536 h ks at l)
-  small-entry (suc zero) at l (some ks) = tt
-  small-entry (suc (suc k)) at l (some ks) = tt
+  small-entry k at l None = tt
+  small-entry zero at l (Some ks) = small_cut (dig_place s ks at) (dig-below s 65536 h ks at l)
+  small-entry (suc zero) at l (Some ks) = tt
+  small-entry (suc (suc k)) at l (Some ks) = tt
 
   small-from : (k at : ℕ) → at ≤ 65536 → (ms : List Member) → All Small (entries_from s (reply_by k at) ms)
   unfolding entries_from

@@ -1,3 +1,4 @@
 pub mod Results
+pub mod Statuses
 pub mod Sorting
 pub mod Told

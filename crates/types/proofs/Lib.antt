@@ -1,4 +1,4 @@
-pub mod Placing
+pub mod Places
 pub mod Linking
-pub mod Parting
+pub mod Noting
 pub mod Telling

@@ -3,5 +3,4 @@ pub mod File
 pub mod Alike
 pub mod Told
 pub mod Dig
-pub mod Walk
-pub mod Again
+pub mod Kinds

@@ -1,18 +1,20 @@
-use Rattle.alike.proofs.Seen.{seen_start, seen-links, seen-hit, seen_step, seen_end}
-use mathlib.Core.Path.{refl}
+use Rattle.std.proofs.Common.{sym, ap, ◌∙◌}
+use Rattle.nodes.proofs.Finds.{name-text}
+use Rattle.alike.specs.Buckets.{bucket_of}
+use Rattle.alike.proofs.Seen.{kept_start, kept-links, kept-hit, kept_step, kept_end}
 use Rattle.alike.proofs.check_nodes_alike.Goals as goal
 
-pub loop-j-init : goal.loop-j-init
-loop-j-init c = seen_start _ _ _
+pub loop-init : goal.loop-init
+loop-init c = kept_start _ _ _ _ c.new-chains.ensures
 
-pub chain_has-requires : goal.chain_has-requires
-chain_has-requires c = seen-links _ _ _ _ _ _ _ _ c.loop-j.invariant c.requires c.loop-j-test.true _ _ c.bucket_at-b.ensures.0 c.bucket_at-b.ensures.1 refl
+pub returns-then-has : goal.returns-then-has
+returns-then-has c = kept-hit _ _ _ _ _ _ c.loop.invariant c.requires c.loop-test.true _ (c.bucket-bucket.ensures.bucket ∙ ap bucket_of (c.text_at.ensures ∙ sym (name-text _ _))) c.bucket-bucket.ensures.few _ c.has.ensures c.if-has.true
 
-pub returns-then-chain_has : goal.returns-then-chain_has
-returns-then-chain_has c = seen-hit _ _ _ _ _ _ _ _ c.loop-j.invariant c.requires c.loop-j-test.true _ _ c.bucket_at-b.ensures.0 c.bucket_at-b.ensures.1 refl _ c.chain_has.ensures c.if-chain_has.true
-
-pub loop-j-preserved : goal.loop-j-preserved
-loop-j-preserved c = seen_step _ _ _ _ _ _ _ _ c.loop-j.invariant c.requires c.loop-j-test.true _ _ c.bucket_at-b.ensures.0 c.bucket_at-b.ensures.1 refl _ c.chain_has.ensures _ c.if-chain_has.false c.node_past-at.ensures
+pub loop-preserved : goal.loop-preserved
+loop-preserved c = kept_step _ _ _ _ _ _ c.loop.invariant c.requires c.loop-test.true _ (c.bucket-bucket.ensures.bucket ∙ ap bucket_of (c.text_at.ensures ∙ sym (name-text _ _))) c.bucket-bucket.ensures.few _ c.has.ensures _ _ c.if-has.false c.insert.ensures c.node_past-at.ensures
 
 pub returns : goal.returns
-returns c = seen_end _ _ _ _ _ _ _ _ c.loop-j.invariant c.loop-j-test.false
+returns c = kept_end _ _ _ _ _ _ c.loop.invariant c.loop-test.false
+
+pub has-requires-clause-links : goal.has-requires-clause-links
+has-requires-clause-links c = kept-links _ _ _ _ _ _ c.loop.invariant c.requires c.loop-test.true _ (c.bucket-bucket.ensures.bucket ∙ ap bucket_of (c.text_at.ensures ∙ sym (name-text _ _))) c.bucket-bucket.ensures.few

@@ -21,9 +21,6 @@ bounds-s-i c = reading-inside _ _ _ _ _ c.loop-i.invariant c.loop-i-test.true
 pub overflow_add-v : goal.overflow_add-v
 overflow_add-v c = omega (arith, reading-room _ _ _ _ _ c.loop-i.invariant c.loop-i-test.true)
 
-pub overflow_add-i : goal.overflow_add-i
-overflow_add-i c = omega arith
-
 pub loop-i-preserved : goal.loop-i-preserved
 loop-i-preserved c = reading-more _ _ _ _ _ c.loop-i.invariant _ c.loop-i-test.true c.wide.ensures.0 c.wide.ensures.1
 

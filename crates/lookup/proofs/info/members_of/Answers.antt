@@ -2,28 +2,29 @@ use Prim.Native.Nat.{◌+◌}
 use mathlib.Core.Path.{refl}
 use native.Mathlib.Omega.{arith}
 use Rattle.lookup.proofs.Paths.{part-within, members-end, members-next, members-missing}
+use Rattle.std.proofs.Common.{◌∙◌}
 use Rattle.lookup.proofs.info.members_of.Goals as goal
 
-pub loop-e-init : goal.loop-e-init
-loop-e-init c = refl
+pub loop-end-init : goal.loop-end-init
+loop-end-init c = refl
 
 pub slice_bounds-member_of-count : goal.slice_bounds-member_of-count
-slice_bounds-member_of-count c = let w = part-within c.args.t.now (c.loop-e.e + 1) _ (omega (arith, c.loop-e-test.true)) c.place_of-end.ensures in omega (arith, w)
+slice_bounds-member_of-count c = let w = part-within c.args.t.now (c.loop-end.end + 1) _ (omega (arith, c.loop-end-test.true)) c.place_of-end.ensures in omega (arith, w)
 
 pub slice_bounds-member_of-start : goal.slice_bounds-member_of-start
-slice_bounds-member_of-start c = let w = part-within c.args.t.now (c.loop-e.e + 1) _ (omega (arith, c.loop-e-test.true)) c.place_of-end.ensures in omega (arith, w)
+slice_bounds-member_of-start c = let w = part-within c.args.t.now (c.loop-end.end + 1) _ (omega (arith, c.loop-end-test.true)) c.place_of-end.ensures in omega (arith, w)
 
 pub slice_bounds-member_of-end : goal.slice_bounds-member_of-end
-slice_bounds-member_of-end c = let w = part-within c.args.t.now (c.loop-e.e + 1) _ (omega (arith, c.loop-e-test.true)) c.place_of-end.ensures in omega (arith, w)
+slice_bounds-member_of-end c = let w = part-within c.args.t.now (c.loop-end.end + 1) _ (omega (arith, c.loop-end-test.true)) c.place_of-end.ensures in omega (arith, w)
 
-pub loop-e-smaller : goal.loop-e-smaller
-loop-e-smaller c = let w = part-within c.args.t.now (c.loop-e.e + 1) _ (omega (arith, c.loop-e-test.true)) c.place_of-end.ensures in omega (arith, w, c.loop-e-test.true)
-
-pub loop-e-preserved : goal.loop-e-preserved
-loop-e-preserved c = members-next _ _ _ _ _ _ c.loop-e-test.true c.loop-e.invariant _ c.place_of-end.ensures _ c.member_of-found.ensures _ c.in-At.is
-
-pub returns-in-Nowhere : goal.returns-in-Nowhere
-returns-in-Nowhere c = members-missing _ _ _ _ _ _ c.loop-e-test.true c.loop-e.invariant _ c.place_of-end.ensures _ c.member_of-found.ensures c.in-Nowhere.is
+pub loop-end-smaller : goal.loop-end-smaller
+loop-end-smaller c = let w = part-within c.args.t.now (c.loop-end.end + 1) _ (omega (arith, c.loop-end-test.true)) c.place_of-end.ensures in omega (arith, w, c.loop-end-test.true)
 
 pub returns : goal.returns
-returns c = members-end _ _ _ _ _ _ c.loop-e-test.false c.loop-e.invariant
+returns c = members-end _ _ _ _ _ _ c.loop-end-test.false c.loop-end.invariant
+
+pub loop-end-preserved : goal.loop-end-preserved
+loop-end-preserved c = members-next _ _ _ _ _ _ c.loop-end-test.true c.loop-end.invariant _ c.place_of-end.ensures _ c.member_of.ensures _ c.in_ok-at.was
+
+pub returns-in_err-at : goal.returns-in_err-at
+returns-in_err-at c = c.from_residual.ensures ∙ members-missing _ _ _ _ _ _ c.loop-end-test.true c.loop-end.invariant _ c.place_of-end.ensures _ c.member_of.ensures c.in_err-at.was

@@ -1,14 +1,10 @@
-use Rattle.packing.proofs.Counting.{filled-start, filled_next, filled-requests, filled-replies}
+use native.Mathlib.Omega.{arith}
+use Rattle.packing.proofs.Pairs.{left-more, left-none}
+use Rattle.packing.proofs.Counting.{steps-more, steps-none}
 use Rattle.packing.proofs.table.fill_all.Goals as goal
 
-pub loop-i-init : goal.loop-i-init
-loop-i-init c = filled-start _ _ _ _ _ c.start-f.ensures
-
-pub returns-then-replies-i : goal.returns-then-replies-i
-returns-then-replies-i c = filled-replies _ _ _ _ _ _ c.loop-i.invariant c.if-replies-i.true
-
-pub loop-i-preserved : goal.loop-i-preserved
-loop-i-preserved c = filled_next _ _ _ _ _ _ c.loop-i.invariant c.loop-i-test.true c.if-replies-i.false _ c.step-f.ensures
+pub loop-request-preserved : goal.loop-request-preserved
+loop-request-preserved c = let p = left-more c.loop-request.request-iterator c.next.new.self _ _ c.in-Some.is c.next.ensures.steps in grind (arith, p, steps-more)
 
 pub returns : goal.returns
-returns c = filled-requests _ _ _ _ _ _ c.loop-i.invariant c.loop-i-test.false
+returns c = let p = left-none c.loop-request.request-iterator c.next.new.self _ c.in-None.is c.next.ensures.steps in grind (arith, p, steps-none)

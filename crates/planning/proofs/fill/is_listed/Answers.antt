@@ -21,10 +21,10 @@ pub bounds-starts-tags : goal.bounds-starts-tags
 bounds-starts-tags c = omega (arith, c.fits-serves c.loop-k.k, c.told-places)
 
 pub overflow_sub-t : goal.overflow_sub-t
-overflow_sub-t c = omega (arith, c.text_at-t.ensures.1)
+overflow_sub-t c = omega (arith, c.part_at-t.ensures.1)
 
 pub returns-then-t-end : goal.returns-then-t-end
-returns-then-t-end c = listing-found _ _ _ _ _ _ _ c.loop-k.invariant c.loop-k-test.true (omega (arith, c.told-serves, c.if-k-ge16640.false)) _ c.text_at-t.ensures.0 c.text_at-t.ensures.1 c.text_at-t.ensures.2 (c.fits-serves c.loop-k.k) c.if-t-end.true
+returns-then-t-end c = listing-found _ _ _ _ _ _ _ c.loop-k.invariant c.loop-k-test.true (omega (arith, c.told-serves, c.if-k-ge16640.false)) _ c.part_at-t.ensures.0 c.part_at-t.ensures.1 c.part_at-t.ensures.2 (c.fits-serves c.loop-k.k) c.if-t-end.true
 
 pub overflow_add-k : goal.overflow_add-k
 overflow_add-k c = omega (arith, c.if-k-ge16640.false)
@@ -33,7 +33,7 @@ pub loop-k-smaller : goal.loop-k-smaller
 loop-k-smaller c = omega (arith, c.loop-k-test.true)
 
 pub loop-k-preserved : goal.loop-k-preserved
-loop-k-preserved c = listing-more _ _ _ _ _ _ _ c.loop-k.invariant c.loop-k-test.true (omega (arith, c.told-serves, c.if-k-ge16640.false)) _ c.text_at-t.ensures.0 c.text_at-t.ensures.1 c.text_at-t.ensures.2 (c.fits-serves c.loop-k.k) c.if-t-end.false
+loop-k-preserved c = listing-more _ _ _ _ _ _ _ c.loop-k.invariant c.loop-k-test.true (omega (arith, c.told-serves, c.if-k-ge16640.false)) _ c.part_at-t.ensures.0 c.part_at-t.ensures.1 c.part_at-t.ensures.2 (c.fits-serves c.loop-k.k) c.if-t-end.false
 
 pub returns : goal.returns
 returns c = listing-end _ _ _ _ _ _ _ c.loop-k.invariant c.loop-k-test.false

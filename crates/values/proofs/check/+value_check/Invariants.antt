@@ -2,7 +2,7 @@
 -- value to the next: from what is inside over its count, its row and a member's name.
 -- A value by its length field: Enclosed. Its content by its kind: Closed. Counts: Counts. Rows, where what is left gives the whole: Along.
 use mathlib.Core.Path.{◌≡◌}
-use Prim.Native.Nat.{◌+◌, ◌*◌}
+use Prim.Native.Nat.{◌+◌, ◌-◌, ◌*◌}
 use Rattle.fields.specs.Format.{many, ◌then◌}
 use Rattle.fields.specs.Fields.{text}
 use Rattle.fields.specs.Places.{check_at}
@@ -30,15 +30,8 @@ decreases-check_members l = 5 * l.levels + 3
 abbrev pub decreases-check_value : goal.decreases-check_value
 decreases-check_value l = 5 * l.levels
 
-abbrev pub invariant-check_item_row-loop-k : goal.invariant-check_item_row-loop-k
-invariant-check_item_row-loop-k l = check_at (many (value l.levels) l.k) l.s l.at ≡ check_at (many (value l.levels) l.n) l.s l.from
+abbrev pub invariant-check_item_row-loop : goal.invariant-check_item_row-loop
+invariant-check_item_row-loop l = check_at (many (value l.levels) l.n) l.s l.from ≡ check_at (many (value l.levels) (l.n - l.counter)) l.s l.at
 
-abbrev pub decreases-check_item_row-loop-k : goal.decreases-check_item_row-loop-k
-decreases-check_item_row-loop-k l = l.k
-
-abbrev pub invariant-check_member_row-loop-k : goal.invariant-check_member_row-loop-k
-invariant-check_member_row-loop-k l =
-    check_at (many (text 128 then value l.levels) l.k) l.s l.at ≡ check_at (many (text 128 then value l.levels) l.n) l.s l.from
-
-abbrev pub decreases-check_member_row-loop-k : goal.decreases-check_member_row-loop-k
-decreases-check_member_row-loop-k l = l.k
+abbrev pub invariant-check_member_row-loop : goal.invariant-check_member_row-loop
+invariant-check_member_row-loop l = check_at (many (text 128 then value l.levels) l.n) l.s l.from ≡ check_at (many (text 128 then value l.levels) (l.n - l.counter)) l.s l.at

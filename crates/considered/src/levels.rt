@@ -1,0 +1,116 @@
+// The levels of a name: its first token, its first two, and so on; where each of these fronts ends, and the node that it leads to.
+ghost use Rattle.std.specs.Prelude.{◌≡◌, true, [], ◌≤◌, ◌<◌, ◌+◌, length, take, drop, OnOk};
+ghost use Rattle.std.specs.Result.{is_err};
+ghost use Rattle.names.specs.Name.{tokens_of, spelling};
+ghost use Rattle.catalog.specs.Catalog.{catalog_of};
+ghost use Rattle.planner.specs.Tags.{climbs};
+ghost use Rattle.considered.specs.Levels.{levels_of};
+ghost use Rattle.considered.specs.Found.{place_behind};
+
+use crate::files::Files;
+use crate::front::Front;
+use crate::table::Table;
+use lookup::member::member_of;
+use names::walk::{Stop, first_token, next_token};
+use nodes::find::find_node_in;
+
+/// Where a front ends in its name, and the place of the node that it leads to.
+#[derive(Clone, Copy)]
+pub struct Level {
+    pub end: usize,
+    pub node: Option<usize>,
+}
+
+// The node behind a token, of which text stands behind the first byte: the member of that name, or behind a bracket the same node.
+#[tactic(auto, using(crate::proofs::Telling::steps))]
+fn token_step(files: &Files, node: Option<usize>, text: &[u8], indexes: usize) -> Option<usize>
+    ensures { result ≡ place_behind files.now.catalog.now node text.now indexes }
+{
+    if indexes != 0 {
+        return node;
+    }
+    member_of(files.catalog, files.types, node?, text)
+}
+
+// Puts down the levels of a name, up to where reading it stops.
+fn put_levels(files: &Files, name: &[u8], levels: &mut Table<Level, 64>) -> Result<(), Stop>
+    requires empty { levels.old ≡ [] }
+    requires short { length name.now ≤ 128 }
+    ensures levels { OnOk result (levels.new ≡ levels_of files.now.catalog.now name.now) }
+    ensures stopped { is_err result ≡ true → tokens_of name.now ≡ [] }
+{
+    let first = first_token(name)?;
+    let mut at = first.end;
+    let mut path = find_node_in(files.catalog, files.bases, &name[..at]);
+    levels.push(Level {
+        end: at,
+        node: path,
+    });
+    while let Some(token) = next_token(name, at)? {
+        let end = token.end;
+        path = token_step(files, path, &name[at + 1..end], token.indexes);
+        let tag = find_node_in(files.catalog, files.bases, &name[..end]);
+        levels.push(Level {
+            end,
+            node: tag.or(path),
+        });
+        at = end;
+    }
+    Ok(())
+}
+
+#[tactic(auto, using(crate::proofs::Resolving::stopped_levelled))]
+/// The levels of a name; none of one that does not read.
+pub fn levels_in(files: &Files, name: &[u8]) -> Table<Level, 64>
+    requires { length name.now ≤ 128 }
+    ensures { result ≡ levels_of files.now.catalog.now name.now }
+{
+    let mut levels = Table::new(Level { end: 0, node: None });
+    if put_levels(files, name, &mut levels).is_err() {
+        levels.clear();
+    }
+    levels
+}
+
+/// A listed tag's name with its levels.
+#[derive(Clone, Copy)]
+pub struct Resolved<'a> {
+    pub files: &'a Files<'a>,
+    pub name: &'a [u8],
+    pub levels: &'a [Level],
+    ghost short: { length name.now ≤ 128 },
+    ghost levelled: { levels.now ≡ levels_of files.now.catalog.now name.now },
+}
+
+impl<'a> Resolved<'a> {
+    /// The front at a level.
+    pub fn front(&self, level: usize) -> Front<'a>
+        requires { level < length (tokens_of self.now.name.now) }
+        ensures catalog { result.files.now.catalog.now ≡ self.now.files.now.catalog.now }
+        ensures list { result.files.now.list.now ≡ self.now.files.now.list.now }
+        ensures name { result.name.now ≡ spelling (take (level + 1) (tokens_of self.now.name.now)) }
+    {
+        let Level { end, node } = self.levels[level];
+        Front {
+            files: self.files,
+            name: &self.name[..end],
+            node,
+        }
+    }
+
+    /// Whether the climb goes on over the token at a position.
+    pub fn goes_on(&self, token: usize) -> bool
+        requires { token < length (tokens_of self.now.name.now) }
+        ensures { let tokens = tokens_of self.now.name.now in
+            let catalog = catalog_of self.now.files.now.catalog.now in
+            result ≡ climbs catalog (take token tokens) (drop token tokens) }
+    {
+        if token == 0 {
+            return true;
+        }
+        let front = self.front(token - 1);
+        let start = front.name.len();
+        let end = self.levels[token].end;
+        front.climbs_over(&self.name[start..end])
+    }
+}

@@ -1,9 +1,0 @@
-pub mod Apart
-pub mod Closing
-pub mod Counting
-pub mod Covering
-pub mod Extents
-pub mod Flags
-pub mod Gathering
-pub mod Marks
-pub mod Parts

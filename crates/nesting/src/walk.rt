@@ -1,0 +1,149 @@
+// The types of a catalog as numbers, with a table of links: which type is nested too deep, and which types read whole.
+ghost use Rattle.std.specs.Prelude.{◌≡◌, ◌≤◌, ◌<◌, Bool, false, replicate};
+ghost use Rattle.std.specs.List.{position};
+ghost use Rattle.nesting.specs.Graph.{listed, first_over, OneMore, OneLinkMore, WholeTypes};
+ghost use Rattle.nesting.specs.Marks.{reaches, Rounded, Ready, Walked};
+
+use crate::graph::Graph;
+
+/// A chain of more types than this is nested too deep.
+const DEEPEST: usize = 16;
+
+// Sets a mark of a row.
+#[tactic(auto, using(crate::proofs::Setting::set_one))]
+fn set(row: &mut [bool; 128], k: usize)
+    requires { k < 128 }
+    ensures { OneMore k row.old row.new }
+{
+    row[k] = true;
+}
+
+// The first mark of a row.
+fn first_marked(marks: &[bool]) -> Option<usize>
+    ensures { result ≡ position (λ (b : Bool). b) marks.now }
+{
+    marks.iter().position(|mark| *mark)
+}
+
+impl Graph {
+    /// So many types, none linked to another and none with AOI 2.
+    pub fn new(count: usize) -> Graph
+        requires { count ≤ 128 }
+        ensures links { result.links ≡ replicate 128 (replicate 128 false) }
+        ensures parts { result.parts ≡ replicate 128 false }
+        ensures count { result.count ≡ count }
+    {
+        Graph {
+            links: [[false; 128]; 128],
+            parts: [false; 128],
+            count,
+        }
+    }
+
+    /// How many types there are.
+    pub fn count(&self) -> usize
+        ensures count { result ≡ self.now.count }
+        ensures few { result ≤ 128 }
+    {
+        self.count
+    }
+
+    /// Notes that type k has a struct member of type u.
+    pub fn link(&mut self, k: usize, u: usize)
+        requires { (k < 128) × (u < 128) }
+        ensures links { OneLinkMore k u self.old.links self.new.links }
+        ensures parts { self.new.parts ≡ self.old.parts }
+        ensures count { self.new.count ≡ self.old.count }
+    {
+        set(&mut self.links[k], u);
+    }
+
+    /// Notes that type k has AOI 2.
+    pub fn set_parts(&mut self, k: usize)
+        requires { k < 128 }
+        ensures parts { OneMore k self.old.parts self.new.parts }
+        ensures links { self.new.links ≡ self.old.links }
+        ensures count { self.new.count ≡ self.old.count }
+    {
+        set(&mut self.parts, k);
+    }
+
+    // Whether type k is linked to a type that has a mark. A loop by numbers, since std has no law of `any` over a range, and a
+    // proof does not know how long an inner row of the table is.
+    #[tactic(auto, using(crate::proofs::Rows::reaching))]
+    fn reaches_mark(&self, marks: &[bool; 128], k: usize) -> bool
+        requires { k < self.now.count }
+        ensures { result ≡ reaches self.now marks.now k }
+    {
+        for u in 0..self.count {
+            if self.links[k][u] && marks[u] {
+                return true;
+            }
+        }
+        false
+    }
+
+    // One level more: a mark for each type that is linked to a type with a mark.
+    #[tactic(auto, using(crate::proofs::Rounds::rounding))]
+    fn round(&self, marks: &[bool; 128]) -> [bool; 128]
+        ensures { Rounded self.now marks.now result }
+    {
+        let mut out = [false; 128];
+        for k in 0..self.count {
+            out[k] = self.reaches_mark(marks, k);
+        }
+        out
+    }
+
+    /// The first type that is nested over 16: 16 rounds, each a level more.
+    #[tactic(auto, using(crate::proofs::Rounds::telling))]
+    pub fn first_over(&self) -> Option<usize>
+        ensures { result ≡ listed self.now.count (first_over self.now) }
+    {
+        let mut marks = [true; 128];
+        for _ in 0..DEEPEST {
+            marks = self.round(&marks);
+        }
+        first_marked(&marks[..self.count])
+    }
+
+    // Whether type k reads whole. The walk goes down link by link, the levels left falling, and keeps what it learns in the
+    // memo, so that it enters each type once.
+    #[tactic(auto, using(crate::proofs::Walking::walking))]
+    fn whole_type(&self, memo: &mut [Option<bool>; 128], k: usize, levels: usize) -> bool
+        requires { Ready self.now memo.old k levels }
+        ensures { Walked self.now memo.new k result }
+    {
+        if let Some(known) = memo[k] {
+            return known;
+        }
+        if self.parts[k] {
+            memo[k] = Some(false);
+            return false;
+        }
+        for u in 0..self.count {
+            if self.links[k][u] && !self.whole_type(memo, u, levels - 1) {
+                memo[k] = Some(false);
+                return false;
+            }
+        }
+        memo[k] = Some(true);
+        true
+    }
+
+    /// Which types read whole, type by type; nothing where one is nested over 16.
+    #[tactic(auto, using(crate::proofs::Markings::making))]
+    pub fn whole_types(&self) -> Option<[bool; 128]>
+        ensures { WholeTypes self.now result }
+    {
+        if self.first_over().is_some() {
+            return None;
+        }
+        let mut whole = [false; 128];
+        let mut memo = [None; 128];
+        for k in 0..self.count {
+            whole[k] = self.whole_type(&mut memo, k, DEEPEST);
+        }
+        Some(whole)
+    }
+}

@@ -1,4 +1,0 @@
-pub mod Closing
-pub mod Copying
-pub mod Flags
-pub mod Merging

@@ -1,0 +1,10 @@
+pub mod Pushing
+pub mod Steps
+pub mod Uniting
+pub mod Placing
+pub mod Telling
+pub mod Starting
+pub mod Filling
+pub mod Setting
+pub mod Extents
+pub mod Lent

@@ -1,0 +1,41 @@
+use Rattle.std.proofs.Common.{◌<◌, length, sym, ap, ◌∙◌, arith}
+use Rattle.reads.proofs.Placing.{put_other, put_first, put_later, put_end, goes_on, room_counts, own_count}
+use Rattle.reads.specs.Held.{is_covered}
+use Rattle.reads.proofs.merge.put_merged.Goals as goal
+
+pub loop-i-preserved-then-not-covered : goal.loop-i-preserved-then-not-covered
+loop-i-preserved-then-not-covered c =
+    let h : c.loop-i.i < length c.args.old.now = omega arith in
+    put_other _ _ _ _ _ h _ _ _ c.loop-i.invariant c.read-read.ensures (sym c.is_covered-covered.ensures ∙ c.if-not-covered.true) c.push.ensures
+
+pub loop-i-preserved-then-placed : goal.loop-i-preserved-then-placed
+loop-i-preserved-then-placed c =
+    let h : c.loop-i.i < length c.args.old.now = omega arith in
+    let e = c.if-placed.true in
+    let t = c.loop-i.invariant in
+    rw e (put_later _ _ _ _ _ h _ (rw e at t) c.read-read.ensures (sym c.is_covered-covered.ensures ∙ c.if-not-covered.false))
+
+pub push_grown-requires-clause-more : goal.push_grown-requires-clause-more
+push_grown-requires-clause-more c =
+    let h : c.loop-i.i < length c.args.old.now = omega arith in
+    let k = own_count (is_covered c.args.marks.now) c.args.old.now c.loop-i.i h (ap (is_covered c.args.marks.now) (sym c.read-read.ensures) ∙ sym c.is_covered-covered.ensures ∙ c.if-not-covered.false) in
+    omega (arith, ap length c.requires.united, ap (λ r. length r.serves) c.read-read.ensures)
+
+pub push_grown-requires-clause-room : goal.push_grown-requires-clause-room
+push_grown-requires-clause-room c =
+    let h : c.loop-i.i < length c.args.old.now = omega arith in
+    let e = c.if-placed.false in
+    let t = c.loop-i.invariant in
+    let g = goes_on _ _ _ _ _ h (rw e at t) (ap (is_covered c.args.marks.now) (sym c.read-read.ensures) ∙ sym c.is_covered-covered.ensures ∙ c.if-not-covered.false) in
+    let k = room_counts _ _ _ _ _ _ g (ap length c.requires.united) in
+    omega (arith, c.len-i-end.ensures.served)
+
+pub loop-i-preserved : goal.loop-i-preserved
+loop-i-preserved c =
+    let h : c.loop-i.i < length c.args.old.now = omega arith in
+    let e = c.if-placed.false in
+    let t = c.loop-i.invariant in
+    put_first _ _ _ _ _ h _ _ (rw e at t) c.read-read.ensures (sym c.is_covered-covered.ensures ∙ c.if-not-covered.false) c.push_grown.ensures
+
+pub returns : goal.returns
+returns c = put_end _ _ _ _ _ _ (omega arith) c.loop-i.invariant

@@ -1,0 +1,44 @@
+//! What is asked of one read, and the record that grows when its read takes in others.
+ghost use Rattle.std.specs.Prelude.{◌≡◌, ◌≤◌, ◌+◌};
+ghost use Rattle.reads.specs.Held.{is_covered};
+ghost use Rattle.reads.specs.Rows.{serves_in, held_in, held, GrownBy};
+
+use crate::row::{GroupRead, Read, Row};
+
+impl Row {
+    /// The positions of the tags that it serves.
+    pub(crate) fn serves<'a>(&self, members: &'a [u8; 256]) -> &'a [u8]
+        ensures { result.now ≡ serves_in members.now self.now }
+    {
+        &members[self.from as usize..self.to as usize]
+    }
+
+    /// Whether the positions that it serves are all marked.
+    pub(crate) fn is_covered(&self, members: &[u8; 256], marks: &[bool; 256]) -> bool
+        ensures { result ≡ is_covered marks.now (held_in members.now self.now) }
+    {
+        self.serves(members).iter().all(|&p| marks[p as usize])
+    }
+
+    /// It takes in others: so many positions more, behind its own, and it becomes the read of a group.
+    pub(crate) fn grow(&mut self, more: u16, into: GroupRead)
+        requires room { self.old.to + more ≤ 256 }
+        ensures { GrownBy self.old more into self.new }
+    {
+        self.group = Some(into.group);
+        self.start = into.start;
+        self.end = into.end;
+        self.to += more;
+        self.request = into.request;
+        self.reply = into.reply;
+    }
+}
+
+impl Read<'_> {
+    /// Whether the positions that it serves are all marked.
+    pub(crate) fn is_covered(&self, marks: &[bool; 256]) -> bool
+        ensures { result ≡ is_covered marks.now (held self.now) }
+    {
+        self.serves.iter().all(|&p| marks[p as usize])
+    }
+}

@@ -1,0 +1,45 @@
+//! A read under way: as a record of the table, as it is lent, and what covered reads become. A record says where the positions of its
+//! read start and end in the row of positions that stands beside the records.
+ghost use Rattle.std.specs.Prelude.{◌≤◌, ◌^◌};
+
+/// A read under way, as a record.
+#[derive(Clone, Copy)]
+pub struct Row {
+    /// the number of its group; none for a plain read
+    pub group: Option<u16>,
+    /// where its name starts and ends in the list, the array's name for a run; 0 and 0 for a plain read
+    pub start: u16,
+    pub end: u16,
+    /// where its positions start and end
+    pub from: u16,
+    pub to: u16,
+    /// the bytes of its request and of its reply
+    pub request: u64,
+    pub reply: u64,
+    ghost ordered: { from ≤ to },
+    ghost within: { to ≤ 256 },
+    ghost small: { reply ≤ 2 ^ 40 },
+}
+
+/// A read under way, lent: as a record has it, and the positions that it serves.
+#[derive(Clone, Copy)]
+pub struct Read<'a> {
+    pub group: Option<u16>,
+    pub start: u16,
+    pub end: u16,
+    pub serves: &'a [u8],
+    pub request: u64,
+    pub reply: u64,
+    ghost small: { reply ≤ 2 ^ 40 },
+}
+
+/// The read of a group: its number, where its name stands in the list, and its sizes.
+#[derive(Clone, Copy)]
+pub struct GroupRead {
+    pub group: u16,
+    pub start: u16,
+    pub end: u16,
+    pub request: u64,
+    pub reply: u64,
+    ghost small: { reply ≤ 2 ^ 40 },
+}

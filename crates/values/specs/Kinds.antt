@@ -1,0 +1,27 @@
+-- What a value is made of, by its kind byte, and what a key of a path names, by its key byte.
+-- Assumes nothing: these are definitions.
+use Rattle.std.specs.Prelude.{ℕ, zero, suc}
+use Rattle.values.specs.declared.ValueKind.{ValueKind}
+use Rattle.values.specs.declared.ValueKind.TheVariants.{Leaf, Array, Struct, Text}
+use Rattle.values.specs.declared.dig.KeyKind.{KeyKind}
+use Rattle.values.specs.declared.dig.KeyKind.TheVariants.{Member, Index, Several}
+
+-- the kind of a byte; what is none of 0 to 2 is read as 3
+abbrev pub kind_of : ℕ → ValueKind
+kind_of zero = Leaf
+kind_of (suc zero) = Array
+kind_of (suc (suc zero)) = Struct
+kind_of (suc (suc (suc k))) = Text
+
+-- the byte of a kind
+abbrev pub kind_number : ValueKind → ℕ
+kind_number Leaf = 0
+kind_number Array = 1
+kind_number Struct = 2
+kind_number Text = 3
+
+-- what a key names, by its byte
+abbrev pub key_of : ℕ → KeyKind
+key_of zero = Member
+key_of (suc zero) = Index
+key_of (suc (suc k)) = Several
