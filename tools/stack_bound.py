@@ -13,8 +13,7 @@ LEVELS = {
     "values::check::check_value": 41,  # values hold one another at most 40 deep; the one over is refused
     "values::alike::alike_value": 41,
     "values::dig::dig_from": 65,  # a path has at most 64 keys
-    "nesting::graph::whole_type": 17,  # types hold one another at most 16 deep
-    "repeats::sort_part": 16,  # halves of at most 16,384 names
+    "nesting::graph::Graph::whole_type": 17,  # types hold one another at most 16 deep
 }
 # What a function that calls no other may use below its frame; memcpy and memset of the C library are taken for such functions.
 RED_ZONE = 128

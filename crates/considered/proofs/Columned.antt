@@ -100,3 +100,5 @@ pub byte-once : (b : Bool) → bool_byte b ≡ once b
 unfolding once
 byte-once true = refl
 byte-once false = refl
+
+pub ruleset columns = (column-start, column-next, column-end, byte-once)

@@ -1,7 +1,7 @@
 -- No tag of a list stands past the end of its file.
 -- Assumes nothing.
 use Prim.Native.Nat.{ℕ, zero, suc, ◌+◌, ◌-◌, ◌^◌, ◌≤◌, ◌<◌}
-use mathlib.Core.Path.{◌≡◌, refl, sym, ap, ◌∙◌}
+use mathlib.Core.Path.{◌≡◌, refl}
 use mathlib.Core.List.{List, [], ◌∷◌}
 use native.Mathlib.Omega.{arith}
 use lib.ListN.{length, take, drop, get_or, length-take, length-drop}
@@ -12,7 +12,7 @@ use Rattle.fields.proofs.Lawful.{Lawful}
 use Rattle.fields.proofs.LawfulFields.{lawful-text}
 use Rattle.fields.proofs.Reading.{many-place-none, many-place-more, number-place, text-place}
 use Rattle.fields.proofs.Rows.{counted-place}
-use Rattle.lists.specs.Lists.{tag, together, no_group}
+use Rattle.lists.specs.Lists.{tag}
 use Rattle.lists.specs.Access.{budget_place, no_group_place, together_place, tags_place, tag_places}
 use Rattle.lists.proofs.Places.{tag-alike}
 

@@ -12,6 +12,7 @@ use crate::table::Table;
 use crate::tags::{Element, Row, Rows, Tag, Tags};
 
 // Lays the tags out in columns, zeros for the element of a tag that is none.
+#[tactic(auto, using(crate::proofs::Columned::columns))]
 fn put_tags(
     tags: &[Tag],
     places: &mut [usize; 256],
@@ -49,6 +50,7 @@ fn put_tags(
 }
 
 // Lays the structs above the tags out in columns.
+#[tactic(auto, using(crate::proofs::Columned::columns))]
 fn put_rows(
     rows: &[Row],
     owners: &mut [u8; 16384],

@@ -34,6 +34,7 @@ pub struct Front<'a> {
 
 impl<'a> Front<'a> {
     // Whether the node at a place is an array of which the name gives no index.
+    #[tactic(auto, using(crate::proofs::Noded::unindexed), unfolding(names::proofs::Ranges::last))]
     fn is_unindexed(&self, at: usize) -> bool
         ensures { let catalog = self.now.files.now.catalog.now in
             result ≡ is_unindexed (tokens_of self.now.name.now) (value_at node catalog at) }
@@ -47,6 +48,7 @@ impl<'a> Front<'a> {
     }
 
     /// Whether there is a node, and it is no array without an index.
+    #[tactic(auto, using(crate::proofs::Noded::reads))]
     pub fn is_read(&self) -> bool
         ensures { result ≡ is_read (catalog_of self.now.files.now.catalog.now) self.now.name.now }
     {
@@ -57,6 +59,7 @@ impl<'a> Front<'a> {
     }
 
     /// The bytes of the struct, if it reads whole and is not barred.
+    #[tactic(auto, using(crate::proofs::Noded::wholes))]
     pub fn struct_size(&self) -> Option<u64>
         ensures { let files = self.now.files.now in
             result ≡ struct_size_in (catalog_of files.catalog.now) (list_of files.list.now) self.now.name.now }
@@ -73,6 +76,7 @@ impl<'a> Front<'a> {
     }
 
     /// The bytes of an element, if it is an array that runs and is not barred.
+    #[tactic(auto, using(crate::proofs::Noded::widths))]
     pub fn element_size(&self) -> Option<u64>
         ensures { let files = self.now.files.now in
             result ≡ width_in (catalog_of files.catalog.now) (list_of files.list.now) self.now.name.now }
@@ -84,6 +88,7 @@ impl<'a> Front<'a> {
     }
 
     /// The bytes of a plain read.
+    #[tactic(auto, using(crate::proofs::Noded::plains))]
     pub fn size(&self) -> Size
         requires { length self.now.name.now ≤ longest_name }
         ensures { let catalog = catalog_of self.now.files.now.catalog.now in
@@ -97,6 +102,7 @@ impl<'a> Front<'a> {
     }
 
     /// Whether the climb goes on over the token behind the name, of which this is the text.
+    #[tactic(auto, using(crate::proofs::Named::climbing_over))]
     pub fn climbs_over(&self, text: &[u8]) -> bool
         requires { LaterText text.now }
         ensures { let node = found_in self.now.files.now.catalog.now self.now.node in
@@ -122,10 +128,12 @@ impl<'a> Front<'a> {
 }
 
 /// The one index that a token is, of which this is the text.
+#[tactic(auto, using(crate::proofs::Named::one_indexes))]
 pub fn one_index(text: &[u8]) -> Option<u64>
     requires { LaterText text.now }
     ensures { result ≡ index_read (later_token text.now) }
 {
+    // By index: the byte that a slice pattern tests has no name that a proof could cite.
     if text[0] == b'.' {
         return None;
     }

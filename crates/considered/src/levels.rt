@@ -59,8 +59,8 @@ fn put_levels(files: &Files, name: &[u8], levels: &mut Table<Level, 64>) -> Resu
     Ok(())
 }
 
-#[tactic(auto, using(crate::proofs::Resolving::stopped_levelled))]
 /// The levels of a name; none of one that does not read.
+#[tactic(auto, using(crate::proofs::Resolving::stopped_levelled))]
 pub fn levels_in(files: &Files, name: &[u8]) -> Table<Level, 64>
     requires { length name.now ≤ 128 }
     ensures { result ≡ levels_of files.now.catalog.now name.now }
@@ -84,6 +84,7 @@ pub struct Resolved<'a> {
 
 impl<'a> Resolved<'a> {
     /// The front at a level.
+    #[tactic(auto, using(crate::proofs::Fronts::levels))]
     pub fn front(&self, level: usize) -> Front<'a>
         requires { level < length (tokens_of self.now.name.now) }
         ensures catalog { result.files.now.catalog.now ≡ self.now.files.now.catalog.now }
@@ -99,6 +100,7 @@ impl<'a> Resolved<'a> {
     }
 
     /// Whether the climb goes on over the token at a position.
+    #[tactic(auto, using(crate::proofs::Fronts::levels))]
     pub fn goes_on(&self, token: usize) -> bool
         requires { token < length (tokens_of self.now.name.now) }
         ensures { let tokens = tokens_of self.now.name.now in

@@ -29,11 +29,13 @@ pub struct View {
 }
 
 // Puts down the row of the struct that a front of a tag's name leads to, if its size is known.
+#[tactic(auto, using(crate::proofs::Climbing::puts))]
 fn put_row(front: &Front, tag: u8, rows: &mut Rows)
     requires short { length front.now.name.now ≤ 128 }
     requires room { length rows.old < 16384 }
     ensures { let files = front.now.files.now in
-        let here = struct_at (catalog_of files.catalog.now) (list_of files.list.now) (tokens_of front.now.name.now) in
+        let tokens = tokens_of front.now.name.now in
+        let here = struct_at (catalog_of files.catalog.now) (list_of files.list.now) tokens in
         map row_in rows.new ≡ map row_in rows.old ++ map (row_of tag) (as_list here) }
 {
     if let Some(size) = front.struct_size() {
@@ -46,10 +48,12 @@ fn put_row(front: &Front, tag: u8, rows: &mut Rows)
 }
 
 // Puts down the rows of the structs that a tag is or lies under, the innermost first.
+#[tactic(auto, using(crate::proofs::Climbing::climbs_up))]
 fn climb(resolved: &Resolved, tag: u8, rows: &mut Rows)
     requires { length rows.old + 64 ≤ 16384 }
     ensures { let files = resolved.now.files.now in
-        let above = above_all (catalog_of files.catalog.now) (list_of files.list.now) resolved.now.name.now in
+        let catalog = catalog_of files.catalog.now in
+        let above = above_all catalog (list_of files.list.now) resolved.now.name.now in
         map row_in rows.new ≡ map row_in rows.old ++ map (row_of tag) above }
 {
     for level in (0..resolved.levels.len()).rev() {
@@ -62,10 +66,12 @@ fn climb(resolved: &Resolved, tag: u8, rows: &mut Rows)
 }
 
 // The element that a tag is.
+#[tactic(auto, using(crate::proofs::Elements::elements))]
 fn element_of(resolved: &Resolved) -> Option<Element>
     requires { Limited resolved.now.name.now }
     ensures { let files = resolved.now.files.now in
-        let last = element_last (catalog_of files.catalog.now) (list_of files.list.now) resolved.now.name.now in
+        let catalog = catalog_of files.catalog.now in
+        let last = element_last catalog (list_of files.list.now) resolved.now.name.now in
         result ≡ option_map element_seen last }
 {
     let count = resolved.levels.len();
@@ -93,6 +99,7 @@ fn is_counted(whole: &Front, is_known: bool) -> bool
 }
 
 // Looks at a tag, and puts down the rows of the structs above it; it is no second spelling where it is known.
+#[tactic(auto, using(crate::proofs::Viewing::looks))]
 fn view_tag(files: &Files, name: &[u8], is_known: bool, tag: u8, rows: &mut Rows) -> View
     requires limited { Limited name.now }
     requires room { length rows.old + 64 ≤ 16384 }
@@ -168,11 +175,13 @@ pub fn see_tag(files: &Files, place: u16, before: &[Tag], rows: &mut Rows) -> Ta
     ensures place { result.place ≡ place }
     ensures tag { let catalog = files.now.catalog.now in
         let list = files.now.list.now in
-        let tag = tag_behind (catalog_of catalog) (list_of list) (map (text_in list) before.now) (text_at list place) in
+        let texts = map (text_in list) before.now in
+        let tag = tag_behind (catalog_of catalog) (list_of list) texts (text_at list place) in
         seen_in result ≡ seen_of catalog tag }
     ensures rows { let list = files.now.list.now in
         let catalog = catalog_of files.now.catalog.now in
-        let tag = tag_behind catalog (list_of list) (map (text_in list) before.now) (text_at list place) in
+        let texts = map (text_in list) before.now in
+        let tag = tag_behind catalog (list_of list) texts (text_at list place) in
         map row_in rows.new ≡ map row_in rows.old ++ map (row_of (length before.now)) tag.above }
 {
     let name = text_at(files.list, place);

@@ -8,3 +8,4 @@ pub mod Filling
 pub mod Setting
 pub mod Extents
 pub mod Lent
+pub mod Marked

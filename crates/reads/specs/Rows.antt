@@ -13,12 +13,9 @@ use Rattle.fields.specs.declared.Size.{Size}
 abbrev pub serves_in : List ℕ → Row → List ℕ
 serves_in members row = take (row.to - row.from) (drop row.from members)
 
--- its size, and the bytes of its reply
+-- its size
 abbrev pub size_in : Row → Size
 size_in row = record { request = row.request; reply = row.reply }
-
-abbrev pub reply_in : Row → ℕ
-reply_in row = row.reply
 
 -- the read of a record
 abbrev pub held_in : List ℕ → Row → Held

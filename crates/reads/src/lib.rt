@@ -12,6 +12,7 @@ mod read;
 mod row;
 mod table;
 
+pub use cover::Covered;
 pub use extent::{Extent, extent_of};
 pub use marks::mark;
 pub use row::{GroupRead, Read};

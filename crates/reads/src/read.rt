@@ -3,6 +3,7 @@ ghost use Rattle.std.specs.Prelude.{◌≡◌, ◌≤◌, ◌+◌};
 ghost use Rattle.reads.specs.Held.{is_covered};
 ghost use Rattle.reads.specs.Rows.{serves_in, held_in, held, GrownBy};
 
+use crate::marks::all_marked;
 use crate::row::{GroupRead, Read, Row};
 
 impl Row {
@@ -17,7 +18,7 @@ impl Row {
     pub(crate) fn is_covered(&self, members: &[u8; 256], marks: &[bool; 256]) -> bool
         ensures { result ≡ is_covered marks.now (held_in members.now self.now) }
     {
-        self.serves(members).iter().all(|&p| marks[p as usize])
+        all_marked(self.serves(members), marks)
     }
 
     /// It takes in others: so many positions more, behind its own, and it becomes the read of a group.
@@ -39,6 +40,6 @@ impl Read<'_> {
     pub(crate) fn is_covered(&self, marks: &[bool; 256]) -> bool
         ensures { result ≡ is_covered marks.now (held self.now) }
     {
-        self.serves.iter().all(|&p| marks[p as usize])
+        all_marked(self.serves, marks)
     }
 }

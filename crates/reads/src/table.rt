@@ -9,6 +9,7 @@ ghost use Rattle.reads.specs.Held.{no_held, count_of, reply_of, is_covered, serv
 ghost use Rattle.reads.specs.Rows.{held, grouped};
 ghost use Rattle.reads.specs.Told.{plain_from, extent_of};
 
+use crate::cover::Covered;
 use crate::extent::{Extent, extent_of};
 use crate::row::{GroupRead, Read, Row};
 use crate::{cover, pack};
@@ -176,20 +177,14 @@ impl Reads {
         self.used = to;
     }
 
-    /// How many reads are covered: all their positions are marked.
-    pub fn count_covered(&self, marks: &[bool; 256]) -> usize
-        ensures count { result ≡ length (keep (is_covered marks.now) self.now) }
-        ensures within { result ≤ 256 }
+    /// What the covered reads come to: those whose positions are all marked.
+    pub fn covered(&self, marks: &[bool; 256]) -> Covered
+        ensures count { result.count ≡ length (keep (is_covered marks.now) self.now) }
+        ensures within { result.count ≤ 256 }
+        ensures reply { result.reply ≡ sum_by reply_of (keep (is_covered marks.now) self.now) }
+        ensures small { result.reply ≤ 2 ^ 48 }
     {
-        cover::count_covered(&self.rows[..self.count], &self.members, marks)
-    }
-
-    /// What the covered reads reply, in bytes.
-    pub fn total_reply(&self, marks: &[bool; 256]) -> u64
-        ensures total { result ≡ sum_by reply_of (keep (is_covered marks.now) self.now) }
-        ensures within { result ≤ 2 ^ 48 }
-    {
-        cover::covered_reply(&self.rows[..self.count], &self.members, marks) as u64
+        cover::total(&self.rows[..self.count], &self.members, marks)
     }
 
     /// The positions of the covered reads, from the front of a buffer on; how many they are.

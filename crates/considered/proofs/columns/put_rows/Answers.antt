@@ -1,4 +1,4 @@
-use Rattle.considered.proofs.Columned.{column-start, column-next, column-end}
+use Rattle.considered.proofs.Columned.{column-start, column-next}
 use Rattle.considered.specs.declared.tags.Row.{Row}
 use mathlib.Core.Path.{refl}
 use native.Mathlib.Omega.{arith}
@@ -17,12 +17,3 @@ loop-at-preserved c = record {
   lengths = column-next (λ (r : Row). r.end) c.args.rows.now _ _ c.loop-at.at _ _ c.loop-at-test.true refl c.loop-at.invariant.lengths;
   sizes = column-next (λ (r : Row). r.size) c.args.rows.now _ _ c.loop-at.at _ _ c.loop-at-test.true refl c.loop-at.invariant.sizes;
 }
-
-pub returns-clause-owners : goal.returns-clause-owners
-returns-clause-owners c = column-end (λ (r : Row). r.tag) c.args.rows.now _ _ _ c.loop-at-test.false c.loop-at.invariant.owners
-
-pub returns-clause-lengths : goal.returns-clause-lengths
-returns-clause-lengths c = column-end (λ (r : Row). r.end) c.args.rows.now _ _ _ c.loop-at-test.false c.loop-at.invariant.lengths
-
-pub returns-clause-sizes : goal.returns-clause-sizes
-returns-clause-sizes c = column-end (λ (r : Row). r.size) c.args.rows.now _ _ _ c.loop-at-test.false c.loop-at.invariant.sizes

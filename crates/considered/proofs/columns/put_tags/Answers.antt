@@ -1,4 +1,4 @@
-use Rattle.considered.proofs.Columned.{column-start, column-next, column-end, byte-once}
+use Rattle.considered.proofs.Columned.{column-start, column-next, byte-once}
 use Rattle.considered.specs.Columns.{first_seen, width_seen, index_seen, array_seen, request_seen, reply_seen}
 use Rattle.considered.specs.Seen.{place_in, seen_in}
 use Rattle.considered.specs.declared.tags.Element.{Element}
@@ -27,24 +27,3 @@ loop-at-preserved c = record {
   requests = column-next (λ t. request_seen (seen_in t)) c.args.tags.now _ _ c.loop-at.at _ _ c.loop-at-test.true refl c.loop-at.invariant.requests;
   replies = column-next (λ t. reply_seen (seen_in t)) c.args.tags.now _ _ c.loop-at.at _ _ c.loop-at-test.true refl c.loop-at.invariant.replies;
 }
-
-pub returns-clause-places : goal.returns-clause-places
-returns-clause-places c = column-end place_in c.args.tags.now _ _ _ c.loop-at-test.false c.loop-at.invariant.places
-
-pub returns-clause-firsts : goal.returns-clause-firsts
-returns-clause-firsts c = column-end (λ t. first_seen (seen_in t)) c.args.tags.now _ _ _ c.loop-at-test.false c.loop-at.invariant.firsts
-
-pub returns-clause-widths : goal.returns-clause-widths
-returns-clause-widths c = column-end (λ t. width_seen (seen_in t)) c.args.tags.now _ _ _ c.loop-at-test.false c.loop-at.invariant.widths
-
-pub returns-clause-indexes : goal.returns-clause-indexes
-returns-clause-indexes c = column-end (λ t. index_seen (seen_in t)) c.args.tags.now _ _ _ c.loop-at-test.false c.loop-at.invariant.indexes
-
-pub returns-clause-arrays : goal.returns-clause-arrays
-returns-clause-arrays c = column-end (λ t. array_seen (seen_in t)) c.args.tags.now _ _ _ c.loop-at-test.false c.loop-at.invariant.arrays
-
-pub returns-clause-requests : goal.returns-clause-requests
-returns-clause-requests c = column-end (λ t. request_seen (seen_in t)) c.args.tags.now _ _ _ c.loop-at-test.false c.loop-at.invariant.requests
-
-pub returns-clause-replies : goal.returns-clause-replies
-returns-clause-replies c = column-end (λ t. reply_seen (seen_in t)) c.args.tags.now _ _ _ c.loop-at-test.false c.loop-at.invariant.replies

@@ -1,6 +1,4 @@
-use Rattle.considered.proofs.Climbing.{climbing-start, climbing-end, climbing-room, climbing-next, climbing-stop, front-of, front-short}
-use Rattle.considered.proofs.Fronts.{levels-long}
-use Rattle.considered.proofs.Listing.{tokens-few}
+use Rattle.considered.proofs.Climbing.{climbing-next, climbing-stop, front-of}
 use Rattle.considered.specs.Seen.{row_in}
 use Rattle.planner.specs.Lists.{as_list}
 use Rattle.planner.specs.Rows.{row_of}
@@ -14,20 +12,8 @@ use mathlib.Core.Path.{ap₂, ◌∙◌}
 use native.Mathlib.Omega.{arith}
 use Rattle.considered.proofs.view.climb.Goals as goal
 
-pub loop-level-init : goal.loop-level-init
-loop-level-init c = let r = c.args.resolved.now in climbing-start _ _ _ _ _ _ (levels-long r.files.now.catalog.now r.name.now r.levels.now r.levelled)
-
-pub put_row-requires-clause-short : goal.put_row-requires-clause-short
-put_row-requires-clause-short c = let r = c.args.resolved.now in let w = c.loop-level.invariant.within in let h = c.loop-level-test.true in let f = front-short r.name.now _ (c.loop-level.level - 1) (omega arith) c.front-front.ensures.name in let s = r.short in omega arith
-
-pub put_row-requires-clause-room : goal.put_row-requires-clause-room
-put_row-requires-clause-room c = let r = c.args.resolved.now in climbing-room _ _ _ _ c.args.rows.now c.loop-level.rows c.loop-level.level c.loop-level.invariant c.loop-level-test.true c.requires (tokens-few r.name.now r.short)
-
 pub returns-then-not-goes_on : goal.returns-then-not-goes_on
 returns-then-not-goes_on c = let r = c.args.resolved.now in let w = c.loop-level.invariant.within in let h = c.loop-level-test.true in climbing-stop _ _ _ _ _ _ _ c.loop-level.invariant (c.loop-level.level - 1) c.front-front.result.name.now _ (omega arith) (c.put_row.ensures ∙ ap₂ (λ x y. map row_in c.loop-level.rows ++ map (row_of c.args.tag) (as_list (struct_at (catalog_of x) (list_of y) (tokens_of c.front-front.result.name.now)))) c.front-front.ensures.catalog c.front-front.ensures.list) (front-of r.name.now _ _ (omega arith) c.front-front.ensures.name) _ c.goes_on.ensures c.if-not-goes_on.true
 
 pub loop-level-preserved : goal.loop-level-preserved
 loop-level-preserved c = let r = c.args.resolved.now in let w = c.loop-level.invariant.within in let h = c.loop-level-test.true in climbing-next _ _ _ _ _ _ _ c.loop-level.invariant (c.loop-level.level - 1) c.front-front.result.name.now _ (omega arith) (c.put_row.ensures ∙ ap₂ (λ x y. map row_in c.loop-level.rows ++ map (row_of c.args.tag) (as_list (struct_at (catalog_of x) (list_of y) (tokens_of c.front-front.result.name.now)))) c.front-front.ensures.catalog c.front-front.ensures.list) (front-of r.name.now _ _ (omega arith) c.front-front.ensures.name) _ c.goes_on.ensures c.if-not-goes_on.false
-
-pub returns : goal.returns
-returns c = climbing-end _ _ _ _ _ _ _ c.loop-level.invariant c.loop-level-test.false

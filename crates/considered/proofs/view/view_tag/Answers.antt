@@ -1,4 +1,4 @@
-use Rattle.considered.proofs.Viewing.{size-none, told-none, rows-none, told-not, rows-not, told-counted, above-counted, name-whole}
+use Rattle.considered.proofs.Viewing.{told-not, rows-not, told-counted, above-counted, name-whole}
 use Rattle.considered.proofs.Fronts.{levels-long}
 use Rattle.considered.specs.Answers.{is_counted}
 use Rattle.considered.specs.Seen.{row_in, element_seen}
@@ -7,22 +7,10 @@ use Rattle.sizes.specs.Sizes.{read_size}
 use Rattle.catalog.specs.Catalog.{catalog_of}
 use Rattle.std.specs.Option.{option_map}
 use mathlib.Core.List.{◌++◌, map}
-use mathlib.Core.Path.{sym, ap, ap₂, ◌∙◌}
+use mathlib.Core.Path.{ap, ap₂, ◌∙◌}
 use lib.ListN.{length}
 use native.Mathlib.Omega.{arith}
 use Rattle.considered.proofs.view.view_tag.Goals as goal
-
-pub returns-then-count-eq0-clause-size : goal.returns-then-count-eq0-clause-size
-returns-then-count-eq0-clause-size c = let f = c.args.files.now in size-none _ c.args.name.now _ _ _ f.bases_stand f.types_stand c.requires.limited c.read_size_in.ensures
-
-pub returns-then-count-eq0-clause-element : goal.returns-then-count-eq0-clause-element
-returns-then-count-eq0-clause-element c = told-none _ _ c.args.name.now _ (sym (c.len-count.ensures.len ∙ levels-long _ c.args.name.now _ c.levels_in-levels.ensures) ∙ c.if-count-eq0.true)
-
-pub returns-then-count-eq0-clause-rows : goal.returns-then-count-eq0-clause-rows
-returns-then-count-eq0-clause-rows c = rows-none _ _ c.args.name.now _ _ _ (sym (c.len-count.ensures.len ∙ levels-long _ c.args.name.now _ c.levels_in-levels.ensures) ∙ c.if-count-eq0.true)
-
-pub front-whole-requires : goal.front-whole-requires
-front-whole-requires c = let e = c.len-count.ensures.len ∙ levels-long _ c.args.name.now _ c.levels_in-levels.ensures in let h = c.if-count-eq0.false in omega arith
 
 pub size-size-requires : goal.size-size-requires
 size-size-requires c = let q = name-whole c.args.name.now _ _ (c.len-count.ensures.len ∙ levels-long _ c.args.name.now _ c.levels_in-levels.ensures) c.if-count-eq0.false c.front-whole.ensures.name in let e = ap length q in let l = c.requires.limited.within in omega arith

@@ -14,14 +14,8 @@ loop-level-init c = (rising-start _ _ _ _ _ _ _ _ _ _ _ _ _ _ c.requires c.fill_
 pub bind_level-requires : goal.bind_level-requires
 bind_level-requires c = omega (arith, c.loop-level.invariant.0.few)
 
-pub overflow_add-level : goal.overflow_add-level
-overflow_add-level c = omega (arith, c.loop-level-test.true)
-
-pub loop-level-smaller : goal.loop-level-smaller
-loop-level-smaller c = omega (arith, c.loop-level-test.true)
-
 pub loop-level-preserved : goal.loop-level-preserved
-loop-level-preserved c = (rising-next _ _ _ _ _ _ _ _ _ _ _ _ _ _ _ _ c.loop-level.invariant.0 _ c.loop-level-test.true c.bind_level.ensures.bound, λ h. c.bind_level.ensures.named (c.loop-level.invariant.1 h))
+loop-level-preserved c = (rising-next _ _ _ _ _ _ _ _ _ _ _ _ _ _ _ _ c.loop-level.invariant.0 _ (omega arith) c.bind_level.ensures.bound, λ h. c.bind_level.ensures.named (c.loop-level.invariant.1 h))
 
 pub returns : goal.returns
-returns c = record { bound = rising-end _ _ _ _ _ _ _ _ _ _ _ _ _ _ _ _ c.loop-level.invariant.0 c.loop-level-test.false; named = c.loop-level.invariant.1 }
+returns c = record { bound = rising-end _ _ _ _ _ _ _ _ _ _ _ _ _ _ _ _ c.loop-level.invariant.0 (omega arith); named = c.loop-level.invariant.1 }

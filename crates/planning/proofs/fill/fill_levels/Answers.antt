@@ -6,19 +6,13 @@ pub loop-j-init : goal.loop-j-init
 loop-j-init c = leveling-start _ _ _ _ _ _ _ _ c.requires c.told-levels
 
 pub level_of-requires : goal.level_of-requires
-level_of-requires c = omega (arith, c.loop-j-test.true, c.loop-j.invariant.few)
+level_of-requires c = omega (arith, c.loop-j.invariant.few)
 
 pub bounds-to-j : goal.bounds-to-j
-bounds-to-j c = omega (arith, c.loop-j.invariant.wide, c.loop-j.invariant.few, c.loop-j-test.true)
-
-pub overflow_add-j : goal.overflow_add-j
-overflow_add-j c = omega (arith, c.loop-j.invariant.few, c.loop-j-test.true)
-
-pub loop-j-smaller : goal.loop-j-smaller
-loop-j-smaller c = omega (arith, c.loop-j-test.true)
+bounds-to-j c = omega (arith, c.loop-j.invariant.wide, c.loop-j.invariant.few)
 
 pub loop-j-preserved : goal.loop-j-preserved
-loop-j-preserved c = leveling-next _ _ _ _ _ _ _ _ _ c.loop-j.invariant _ c.loop-j-test.true c.level_of.ensures
+loop-j-preserved c = leveling-next _ _ _ _ _ _ _ _ _ c.loop-j.invariant _ (omega arith) c.level_of.ensures
 
 pub returns : goal.returns
-returns c = leveling-end _ _ _ _ _ _ _ _ _ c.loop-j.invariant c.loop-j-test.false
+returns c = leveling-end _ _ _ _ _ _ _ _ _ c.loop-j.invariant (omega arith)

@@ -7,7 +7,7 @@ pub loop-j-init : goal.loop-j-init
 loop-j-init c = asking-start _ _ _ _ _ _ _ c.requires.0 c.told-asks
 
 pub name_of-t-requires : goal.name_of-t-requires
-name_of-t-requires c = omega (arith, c.loop-j-test.true, c.loop-j.invariant.few)
+name_of-t-requires c = omega (arith, c.loop-j.invariant.few)
 
 pub slice_bounds-request_size-count : goal.slice_bounds-request_size-count
 slice_bounds-request_size-count c = omega (arith, c.name_of-t.ensures)
@@ -16,19 +16,13 @@ pub overflow_cast-to : goal.overflow_cast-to
 overflow_cast-to c = omega (arith, c.request_size.ensures.1)
 
 pub offset_bounds-to-j : goal.offset_bounds-to-j
-offset_bounds-to-j c = omega (arith, c.loop-j.invariant.few, c.loop-j-test.true)
+offset_bounds-to-j c = omega (arith, c.loop-j.invariant.few)
 
 pub bounds-to-j : goal.bounds-to-j
-bounds-to-j c = omega (arith, c.loop-j.invariant.wide, c.loop-j.invariant.few, c.loop-j-test.true)
-
-pub overflow_add-j : goal.overflow_add-j
-overflow_add-j c = omega (arith, c.loop-j.invariant.few, c.loop-j-test.true)
-
-pub loop-j-smaller : goal.loop-j-smaller
-loop-j-smaller c = omega (arith, c.loop-j-test.true)
+bounds-to-j c = omega (arith, c.loop-j.invariant.wide, c.loop-j.invariant.few)
 
 pub loop-j-preserved : goal.loop-j-preserved
-loop-j-preserved c = asking-next _ _ _ _ _ _ _ _ c.loop-j.invariant _ _ c.loop-j-test.true c.name_of-t.ensures.0 (request-whole _ _ _ _ c.requires.1 _ c.request_size.ensures.0)
+loop-j-preserved c = asking-next _ _ _ _ _ _ _ _ c.loop-j.invariant _ _ (omega arith) c.name_of-t.ensures.0 (request-whole _ _ _ _ c.requires.1 _ c.request_size.ensures.0)
 
 pub returns : goal.returns
-returns c = asking-end _ _ _ _ _ _ _ _ c.loop-j.invariant c.loop-j-test.false
+returns c = asking-end _ _ _ _ _ _ _ _ c.loop-j.invariant (omega arith)

@@ -1,48 +1,33 @@
-use mathlib.Core.Path.{sym, ◌∙◌}
+use mathlib.Core.Path.{sym, subst, ◌∙◌}
+use Prim.Native.Nat.{◌+◌}
 use native.Mathlib.Omega.{arith}
-use Rattle.planning.proofs.Walks.{pathing-start, pathing-size, pathing-few, pathing-room, pathing-next, pathing-none, pathing-end, pathing-stops}
-use Rattle.names.proofs.Measuring.{step_fits}
-use Rattle.names.proofs.Walking.{told-step}
+use Rattle.names.proofs.Walking.{walk_starts, walk_ends, walk_stops, walk_gives}
+use Rattle.planning.proofs.Walks.{Pathing, pathing-start, pathing-few, pathing-room, pathing-next, pathing-none, pathing-end, pathing-stops}
 use Rattle.planning.proofs.write.put_path.Goals as goal
 
-pub loop-token-init : goal.loop-token-init
-loop-token-init c = pathing-start _ _ _ c.requires
-
-pub slice_bounds-put_step-count : goal.slice_bounds-put_step-count
-slice_bounds-put_step-count c = let w = step_fits _ _ _ _ (told-step c.next_token.ensures c.in-Ok-Some.is c.in-Ok-Some.field-0-is) in omega (arith, w)
-
-pub slice_bounds-put_step-start : goal.slice_bounds-put_step-start
-slice_bounds-put_step-start c = let w = step_fits _ _ _ _ (told-step c.next_token.ensures c.in-Ok-Some.is c.in-Ok-Some.field-0-is) in omega (arith, w)
-
-pub slice_bounds-put_step-end : goal.slice_bounds-put_step-end
-slice_bounds-put_step-end c = let w = step_fits _ _ _ _ (told-step c.next_token.ensures c.in-Ok-Some.is c.in-Ok-Some.field-0-is) in omega (arith, w)
+pub loop-piece-init : goal.loop-piece-init
+loop-piece-init c =
+    walk_starts (λ at. Pathing c.args.name.now c.args.path.now c.args.path.now c.args.from at 1 0) _ _ _ _ c.into_iter-piece-iterator.ensures.into_iter_gives c.behind-piece-items.ensures.name c.behind-piece-items.ensures.at (pathing-start _ _ _ c.requires)
 
 pub put_step-to-requires : goal.put_step-to-requires
-put_step-to-requires c = pathing-room _ _ _ _ _ _ _ c.loop-token.invariant _ _ (told-step c.next_token.ensures c.in-Ok-Some.is c.in-Ok-Some.field-0-is)
+put_step-to-requires c =
+    let g = walk_gives _ c.loop-piece.piece-iterator c.next.new.self _ _ _ c.loop-piece.invariant.0 c.in-Some.ensures.steps c.in-Ok.is in
+    rw g.1 (pathing-room _ _ _ _ _ _ _ c.loop-piece.invariant.1 _ _ g.0)
 
 pub overflow_add-n : goal.overflow_add-n
-overflow_add-n c = let w = pathing-few _ _ _ _ _ _ _ c.loop-token.invariant in omega (arith, w)
+overflow_add-n c = let w = pathing-few _ _ _ _ _ _ _ c.loop-piece.invariant.1 in omega (arith, w)
 
-pub loop-token-smaller : goal.loop-token-smaller
-loop-token-smaller c = let w = step_fits _ _ _ _ (told-step c.next_token.ensures c.in-Ok-Some.is c.in-Ok-Some.field-0-is) in omega (arith, w)
+pub loop-piece-preserved : goal.loop-piece-preserved
+loop-piece-preserved c =
+    let g = walk_gives _ c.loop-piece.piece-iterator c.next.new.self _ _ _ c.loop-piece.invariant.0 c.in-Some.ensures.steps c.in-Ok.is in
+    let p = pathing-next _ _ _ _ _ _ _ c.loop-piece.invariant.1 _ _ g.0 _ _ (rw g.1 at c.put_step-to.ensures.place) (rw g.1 at c.put_step-to.ensures.bytes) in
+    (c.in-Some.ensures.steps.0 ∙ c.loop-piece.invariant.0, subst (λ at. Pathing c.args.name.now c.args.path.now c.put_step-to.new.path c.args.from at c.put_step-to.result (c.loop-piece.n + 1)) (sym g.2) p)
 
-pub loop-token-preserved : goal.loop-token-preserved
-loop-token-preserved c = pathing-next _ _ _ _ _ _ _ c.loop-token.invariant _ _ (told-step c.next_token.ensures c.in-Ok-Some.is c.in-Ok-Some.field-0-is) _ _ c.put_step-to.ensures.place c.put_step-to.ensures.bytes
-
-pub shape_of-path-then-n-eq0 : goal.shape_of-path-then-n-eq0
-shape_of-path-then-n-eq0 c = pathing-size _ _ _ _ _ _ _ c.loop-token.invariant
+pub returns-in_default : goal.returns-in_default
+returns-in_default c = absurd (pathing-stops _ _ _ _ _ _ _ c.loop-piece.invariant.1 _ (walk_stops _ c.loop-piece.piece-iterator c.next.new.self _ _ c.loop-piece.invariant.0 c.in-Some.ensures.steps c.in_default.is))
 
 pub returns-then-n-eq0 : goal.returns-then-n-eq0
-returns-then-n-eq0 c = let all = pathing-none _ _ _ _ _ _ _ c.loop-token.invariant (told-step c.next_token.ensures c.in-Ok-None.is c.in-Ok-None.field-0-is) c.if-n-eq0.true in record { size = all.0; bytes = all.1 }
+returns-then-n-eq0 c = let all = pathing-none _ _ _ _ _ _ _ c.loop-piece.invariant.1 (walk_ends _ c.loop-piece.piece-iterator c.next.new.self c.loop-piece.invariant.0 c.in-None.ensures.steps) c.if-n-eq0.true in record { size = all.0; bytes = all.1 }
 
-pub shape_of-path-in-Ok-None : goal.shape_of-path-in-Ok-None
-shape_of-path-in-Ok-None c = let w = pathing-size _ _ _ _ _ _ _ c.loop-token.invariant in omega (arith, w)
-
-pub returns-in-Ok-None : goal.returns-in-Ok-None
-returns-in-Ok-None c = let all = pathing-end _ _ _ _ _ _ _ c.loop-token.invariant (told-step c.next_token.ensures c.in-Ok-None.is c.in-Ok-None.field-0-is) _ c.if-n-eq0.false c.put_number.ensures in record { size = all.0; bytes = all.1 }
-
-pub shape_of-path-in-Err : goal.shape_of-path-in-Err
-shape_of-path-in-Err c = pathing-size _ _ _ _ _ _ _ c.loop-token.invariant
-
-pub returns-in-Err : goal.returns-in-Err
-returns-in-Err c = absurd (pathing-stops _ _ _ _ _ _ _ c.loop-token.invariant _ (sym c.next_token.ensures ∙ c.in-Err.is))
+pub returns : goal.returns
+returns c = let all = pathing-end _ _ _ _ _ _ _ c.loop-piece.invariant.1 (walk_ends _ c.loop-piece.piece-iterator c.next.new.self c.loop-piece.invariant.0 c.in-None.ensures.steps) _ c.if-n-eq0.false c.put_number.ensures in record { size = all.0; bytes = all.1 }

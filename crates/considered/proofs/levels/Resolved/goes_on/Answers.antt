@@ -1,5 +1,4 @@
-use Rattle.considered.proofs.Listing.{tokens-few}
-use Rattle.considered.proofs.Fronts.{levels-long, level-told, first-climbs, between-later, between-order, between-climbs}
+use Rattle.considered.proofs.Fronts.{level-told, between-later, between-order, between-climbs}
 use mathlib.Core.Path.{ap, ◌∙◌}
 use lib.ListN.{take, drop}
 use Rattle.names.specs.Name.{tokens_of}
@@ -7,15 +6,6 @@ use Rattle.catalog.specs.Catalog.{catalog_of}
 use Rattle.planner.specs.Tags.{climbs}
 use native.Mathlib.Omega.{arith}
 use Rattle.considered.proofs.levels.Resolved.goes_on.Goals as goal
-
-pub returns-then-token-eq0 : goal.returns-then-token-eq0
-returns-then-token-eq0 c = first-climbs _ c.args.self.now.name.now _ c.if-token-eq0.true c.requires
-
-pub offset_bounds-self-token : goal.offset_bounds-self-token
-offset_bounds-self-token c = let s = c.args.self.now in let f = tokens-few s.name.now s.short in let h = c.requires in omega arith
-
-pub bounds-self-token : goal.bounds-self-token
-bounds-self-token c = let s = c.args.self.now in let n = levels-long s.files.now.catalog.now s.name.now s.levels.now s.levelled in let h = c.requires in omega arith
 
 pub slice_bounds-climbs_over-count : goal.slice_bounds-climbs_over-count
 slice_bounds-climbs_over-count c = let s = c.args.self.now in between-order s.name.now c.args.token (omega arith) c.requires _ _ c.front-front.ensures.name (level-told s.files.now.catalog.now s.name.now s.levels.now c.args.token _ s.short s.levelled c.requires).long
