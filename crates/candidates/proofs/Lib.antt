@@ -8,10 +8,10 @@ pub mod Under
 pub mod Positions
 pub mod Rising
 pub mod Clusters
-pub mod Laying
+pub mod Putting
+pub mod Pieces
 pub mod Arrays
 pub mod Spreading
-pub mod Gathering
 pub mod Kept
 pub mod Known
 pub mod Told
@@ -19,3 +19,5 @@ pub mod WholesOf
 pub mod Allowed
 pub mod RunsOf
 pub mod Levels
+pub mod Pushing
+pub mod Written

@@ -1,5 +1,5 @@
 pub mod Columns
+pub mod Groups
 pub mod Heads
 pub mod Lent
 pub mod Runs
-pub mod Table

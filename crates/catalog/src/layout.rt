@@ -5,6 +5,7 @@ ghost use Rattle.fields.specs.Places.{check_at, place_at};
 ghost use Rattle.catalog.specs.Catalog.{Node, node, TypeDef, type_def};
 ghost use Rattle.catalog.specs.Seamless.{seamless_node, seamless_type};
 
+use fields::number::{GREATEST_OF_FOUR, GREATEST_OF_TWO};
 use fields::row::{Choice, Counted, Field, Number, Optional, Text};
 use fields::{Checked, Width};
 
@@ -42,20 +43,20 @@ pub const DIMENSIONS: Counted<Number> = Counted {
 pub const ID: Optional<Number> = Optional {
     field: Number {
         width: Width::Four,
-        max: 4294967295,
+        max: GREATEST_OF_FOUR,
     },
 };
 /// The structure size of a node, in bytes.
 pub const SIZE: Optional<Number> = Optional {
     field: Number {
         width: Width::Two,
-        max: 65535,
+        max: GREATEST_OF_TWO,
     },
 };
 /// The structure size of a type, in bytes.
 pub const TYPE_SIZE: Number = Number {
     width: Width::Two,
-    max: 65535,
+    max: GREATEST_OF_TWO,
 };
 /// The members of a type.
 pub const MEMBERS: Counted<NodeField> = Counted {

@@ -11,5 +11,4 @@ pub mod Alikes
 pub mod Viewing
 pub mod Considering
 pub mod Deciding
-pub mod Columned
 pub mod Within

@@ -3,4 +3,3 @@ pub mod Found
 pub mod Considered
 pub mod Answers
 pub mod Seen
-pub mod Columns

@@ -1,12 +1,13 @@
 -- What the tables hold: a row for each tag that is looked at, and one for each struct above it, as the planner's own tags and rows.
 -- Assumes nothing: these are definitions.
-use Rattle.std.specs.Prelude.{ℕ, Bool, List, Option, length}
+use Rattle.std.specs.Prelude.{ℕ, Bool, false, List, Option, None, length, get_or}
 use Rattle.std.specs.Option.{option_map}
 use Rattle.fields.specs.Text.{Text}
 use Rattle.fields.specs.declared.Size.{Size}
 use Rattle.catalog.specs.Catalog.{catalog_of}
 use Rattle.considered.specs.Answers.{text_at}
 use Rattle.sizes.specs.Sizes.{read_size}
+use Rattle.planner.specs.Lists.{given}
 use Rattle.planner.specs.Tags.{Element, Tag}
 use Rattle.planner.specs.Rows.{Row}
 use Rattle.considered.specs.declared.tags.Element.{Element as ElementRow}
@@ -42,3 +43,15 @@ row_in r = record { tag = r.tag; end = r.end; size = r.size }
 -- the text of the tag of a row, in the list file
 abbrev pub text_in : List ℕ → TagRow → Text
 text_in list t = text_at list t.place
+
+-- no tag: its place is past every list
+abbrev pub no_tag : TagRow
+no_tag = record { place = 16384; is_first = false; element = None; size = record { request = 0; reply = 0 } }
+
+-- the tag at a position
+abbrev pub tag_in : List TagRow → ℕ → TagRow
+tag_in tags p = get_or tags p no_tag
+
+-- the index of the tag at a position, 0 where it is no element
+unfoldable pub index_in : List TagRow → ℕ → ℕ
+index_in tags p = given (tag_in tags p).element 0 (λ e. e.index)

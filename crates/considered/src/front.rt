@@ -39,12 +39,8 @@ impl<'a> Front<'a> {
         ensures { let catalog = self.now.files.now.catalog.now in
             result ≡ is_unindexed (tokens_of self.now.name.now) (value_at node catalog at) }
     {
-        let node = node_at(self.files.catalog, at);
-        if node.count == 0 {
-            return false;
-        }
-        let last = self.name.len() - 1;
-        self.name[last] != b']'
+        let node = node_at(self.files.catalog.file(), at);
+        node.count != 0 && self.name[self.name.len() - 1] != b']'
     }
 
     /// Whether there is a node, and it is no array without an index.
@@ -72,7 +68,7 @@ impl<'a> Front<'a> {
         if self.is_unindexed(at) {
             return None;
         }
-        struct_size(files.catalog, files.types, files.marks, Some(at))
+        struct_size(files.catalog, files.marks, Some(at))
     }
 
     /// The bytes of an element, if it is an array that runs and is not barred.
@@ -84,7 +80,7 @@ impl<'a> Front<'a> {
         if is_barred(self.files.list, self.name) {
             return None;
         }
-        element_size(self.files.catalog, self.node)
+        element_size(self.files.catalog.file(), self.node)
     }
 
     /// The bytes of a plain read.
@@ -94,10 +90,10 @@ impl<'a> Front<'a> {
         ensures { let catalog = catalog_of self.now.files.now.catalog.now in
             result ≡ read_size catalog self.now.name.now }
     {
-        let files = self.files;
+        let catalog = self.files.catalog;
         Size {
-            request: request_size(files.catalog, files.bases, files.types, self.name),
-            reply: reply_size(files.catalog, self.node),
+            request: request_size(catalog, self.name),
+            reply: reply_size(catalog.file(), self.node),
         }
     }
 
@@ -108,10 +104,7 @@ impl<'a> Front<'a> {
         ensures { let node = found_in self.now.files.now.catalog.now self.now.node in
             result ≡ piece_climbs node (later_token text.now) }
     {
-        if text[0] == b'.' {
-            return true;
-        }
-        one_index(text).is_some() && self.is_apart()
+        text[0] == b'.' || (one_index(text).is_some() && self.is_apart())
     }
 
     // Whether there is a node that holds no bits.
@@ -122,7 +115,7 @@ impl<'a> Front<'a> {
     {
         match self.node {
             None => false,
-            Some(at) => !is_bits(self.files.catalog, at),
+            Some(at) => !is_bits(self.files.catalog.file(), at),
         }
     }
 }

@@ -9,13 +9,14 @@ ghost use Rattle.considered.specs.Found.{place_behind};
 
 use crate::files::Files;
 use crate::front::Front;
-use crate::table::Table;
+use crate::tags::MOST_LEVELS;
+use fields::table::Table;
+use lists::layout::LONGEST_NAME;
 use lookup::member::member_of;
 use names::walk::{Stop, first_token, next_token};
-use nodes::find::find_node_in;
 
 /// Where a front ends in its name, and the place of the node that it leads to.
-#[derive(Clone, Copy)]
+#[derive(Clone, Copy, Debug, PartialEq, Eq)]
 pub struct Level {
     pub end: usize,
     pub node: Option<usize>,
@@ -26,30 +27,37 @@ pub struct Level {
 fn token_step(files: &Files, node: Option<usize>, text: &[u8], indexes: usize) -> Option<usize>
     ensures { result ≡ place_behind files.now.catalog.now node text.now indexes }
 {
+    // How many indexes a token has, 0 for a member: so it is told by crate `names`.
     if indexes != 0 {
         return node;
     }
-    member_of(files.catalog, files.types, node?, text)
+    member_of(files.catalog, node?, text)
 }
 
 // Puts down the levels of a name, up to where reading it stops.
-fn put_levels(files: &Files, name: &[u8], levels: &mut Table<Level, 64>) -> Result<(), Stop>
+// No tag is longer, in a clause, here and below.
+fn put_levels(
+    files: &Files,
+    name: &[u8],
+    levels: &mut Table<Level, MOST_LEVELS>,
+) -> Result<(), Stop>
     requires empty { levels.old ≡ [] }
-    requires short { length name.now ≤ 128 }
+    requires short { length name.now ≤ LONGEST_NAME }
     ensures levels { OnOk result (levels.new ≡ levels_of files.now.catalog.now name.now) }
     ensures stopped { is_err result ≡ true → tokens_of name.now ≡ [] }
 {
     let first = first_token(name)?;
     let mut at = first.end;
-    let mut path = find_node_in(files.catalog, files.bases, &name[..at]);
+    let mut path = files.catalog.find_tag(&name[..at]);
     levels.push(Level {
         end: at,
         node: path,
     });
+    // `while let`: each token starts where the one before ends, and reading it may stop with an error.
     while let Some(token) = next_token(name, at)? {
         let end = token.end;
         path = token_step(files, path, &name[at + 1..end], token.indexes);
-        let tag = find_node_in(files.catalog, files.bases, &name[..end]);
+        let tag = files.catalog.find_tag(&name[..end]);
         levels.push(Level {
             end,
             node: tag.or(path),
@@ -61,8 +69,8 @@ fn put_levels(files: &Files, name: &[u8], levels: &mut Table<Level, 64>) -> Resu
 
 /// The levels of a name; none of one that does not read.
 #[tactic(auto, using(crate::proofs::Resolving::stopped_levelled))]
-pub fn levels_in(files: &Files, name: &[u8]) -> Table<Level, 64>
-    requires { length name.now ≤ 128 }
+pub fn levels_in(files: &Files, name: &[u8]) -> Table<Level, MOST_LEVELS>
+    requires { length name.now ≤ LONGEST_NAME }
     ensures { result ≡ levels_of files.now.catalog.now name.now }
 {
     let mut levels = Table::new(Level { end: 0, node: None });
@@ -107,6 +115,7 @@ impl<'a> Resolved<'a> {
             let catalog = catalog_of self.now.files.now.catalog.now in
             result ≡ climbs catalog (take token tokens) (drop token tokens) }
     {
+        // An early return: behind `||` the rest would be a block.
         if token == 0 {
             return true;
         }

@@ -1,6 +1,19 @@
 // What the planner knows of a listed tag and of a struct above one: a row each, and the tables of these rows.
-use crate::table::Table;
+ghost use Rattle.std.specs.Prelude.{◌≡◌};
+ghost use Rattle.considered.specs.Seen.{index_in, tag_in};
+
 use fields::Size;
+use fields::table::Table;
+use lists::layout::MOST_TAGS;
+
+/// The most tokens of a tag's name: each has two bytes at least, but the first.
+pub const MOST_LEVELS: usize = 64;
+
+/// The most rows of structs above the tags: one for each token of each tag.
+pub const MOST_ROWS: usize = 16384;
+
+// A place past every list, whose files are no longer.
+const PAST_LISTS: u16 = 16384;
 
 /// The element of an array that a tag is: its bytes, its index, and the bytes of the array's name.
 #[derive(Clone, Copy, Debug, PartialEq, Eq)]
@@ -12,7 +25,7 @@ pub struct Element {
 
 /// A listed tag: where its text stands in the list file, whether it is the first that is so called, case ignored, the element of an
 /// array that it is, and the bytes of a plain read of it.
-#[derive(Clone, Copy)]
+#[derive(Clone, Copy, Debug, PartialEq, Eq)]
 pub struct Tag {
     pub place: u16,
     pub is_first: bool,
@@ -21,9 +34,9 @@ pub struct Tag {
 }
 
 impl Tag {
-    /// A row that tells nothing, as a new table holds it.
+    /// A row that tells nothing, as a new table holds it: its place is past every list.
     pub const BLANK: Tag = Tag {
-        place: 0,
+        place: PAST_LISTS,
         is_first: false,
         element: None,
         size: Size {
@@ -51,7 +64,28 @@ impl Row {
 }
 
 /// The listed tags, in order.
-pub type Tags = Table<Tag, 256>;
+pub type Tags = Table<Tag, MOST_TAGS>;
+
+/// The tag at a position; past the last one a blank row.
+pub fn tag_at(tags: &Tags, position: u8) -> Tag
+    ensures { result ≡ tag_in tags.now position }
+{
+    tags.rows()
+        .get(usize::from(position))
+        .copied()
+        .unwrap_or(Tag::BLANK)
+}
+
+/// The index of the element that the tag at a position is, 0 where it is none.
+#[tactic(auto, unfolding(crate::specs::Seen::index_in, planner::specs::Lists::given))]
+pub fn index_at(tags: &Tags, position: u8) -> u32
+    ensures { result ≡ index_in tags.now position }
+{
+    match tag_at(tags, position).element {
+        Some(element) => element.index,
+        None => 0,
+    }
+}
 
 /// The structs above the tags: those of each tag in a row, the innermost first.
-pub type Rows = Table<Row, 16384>;
+pub type Rows = Table<Row, MOST_ROWS>;

@@ -15,14 +15,14 @@ ghost use Rattle.considered.specs.Answers.{Limited, element_last, above_all, abo
 use crate::files::Files;
 use crate::front::{Front, one_index};
 use crate::levels::{Resolved, levels_in};
-use crate::tags::{Element, Row, Rows, Tag};
+use crate::tags::{Element, MOST_LEVELS, MOST_ROWS, Row, Rows, Tag};
 use fields::Size;
 use fields::check::part_at;
-use fields::text::equal_ignoring_case;
-use sizes::reply::read_size_in;
+use lists::layout::{LONGEST_NAME, MOST_TAGS};
+use sizes::reply::read_size_of;
 
 /// What a tag gives: the bytes of its plain read, and the element that it is.
-#[derive(Clone, Copy)]
+#[derive(Clone, Copy, Debug, PartialEq, Eq)]
 pub struct View {
     pub size: Size,
     pub element: Option<Element>,
@@ -31,13 +31,14 @@ pub struct View {
 // Puts down the row of the struct that a front of a tag's name leads to, if its size is known.
 #[tactic(auto, using(crate::proofs::Climbing::puts))]
 fn put_row(front: &Front, tag: u8, rows: &mut Rows)
-    requires short { length front.now.name.now ≤ 128 }
-    requires room { length rows.old < 16384 }
+    requires short { length front.now.name.now ≤ LONGEST_NAME }
+    requires room { length rows.old < MOST_ROWS }
     ensures { let files = front.now.files.now in
         let tokens = tokens_of front.now.name.now in
         let here = struct_at (catalog_of files.catalog.now) (list_of files.list.now) tokens in
         map row_in rows.new ≡ map row_in rows.old ++ map (row_of tag) (as_list here) }
 {
+    // `as`, here and below: the clauses bound each of these; `try_from` would bring an error that cannot come.
     if let Some(size) = front.struct_size() {
         rows.push(Row {
             tag,
@@ -48,9 +49,10 @@ fn put_row(front: &Front, tag: u8, rows: &mut Rows)
 }
 
 // Puts down the rows of the structs that a tag is or lies under, the innermost first.
+// There is room for the structs of one tag more, in a clause, here and below.
 #[tactic(auto, using(crate::proofs::Climbing::climbs_up))]
 fn climb(resolved: &Resolved, tag: u8, rows: &mut Rows)
-    requires { length rows.old + 64 ≤ 16384 }
+    requires { length rows.old + MOST_LEVELS ≤ MOST_ROWS }
     ensures { let files = resolved.now.files.now in
         let catalog = catalog_of files.catalog.now in
         let above = above_all catalog (list_of files.list.now) resolved.now.name.now in
@@ -66,6 +68,7 @@ fn climb(resolved: &Resolved, tag: u8, rows: &mut Rows)
 }
 
 // The element that a tag is.
+// That a tag is inside its limits is asked for in a clause, here and below: accepted or not, a list has such tags.
 #[tactic(auto, using(crate::proofs::Elements::elements))]
 fn element_of(resolved: &Resolved) -> Option<Element>
     requires { Limited resolved.now.name.now }
@@ -102,7 +105,7 @@ fn is_counted(whole: &Front, is_known: bool) -> bool
 #[tactic(auto, using(crate::proofs::Viewing::looks))]
 fn view_tag(files: &Files, name: &[u8], is_known: bool, tag: u8, rows: &mut Rows) -> View
     requires limited { Limited name.now }
-    requires room { length rows.old + 64 ≤ 16384 }
+    requires room { length rows.old + MOST_LEVELS ≤ MOST_ROWS }
     ensures size { result.size ≡ read_size (catalog_of files.now.catalog.now) name.now }
     ensures element { let catalog = catalog_of files.now.catalog.now in
         let element = element_in catalog (list_of files.now.list.now) name.now is_known in
@@ -115,7 +118,7 @@ fn view_tag(files: &Files, name: &[u8], is_known: bool, tag: u8, rows: &mut Rows
     let count = levels.len();
     if count == 0 {
         return View {
-            size: read_size_in(files.catalog, files.bases, files.types, name),
+            size: read_size_of(files.catalog, name),
             element: None,
         };
     }
@@ -147,12 +150,19 @@ fn text_at(list: &[u8], place: u16) -> &[u8]
     &list[part.start..part.end]
 }
 
+// Whether a tag is called like this, case ignored.
+#[tactic(auto, using(fields::proofs::Comparisons::compared))]
+fn is_called(list: &[u8], tag: &Tag, name: &[u8]) -> bool
+    ensures { result ≡ alike name.now (text_in list.now tag.now) }
+{
+    name.eq_ignore_ascii_case(text_at(list, tag.place))
+}
+
 // The first of some tags that is called like this, case ignored.
 fn first_alike<'a>(list: &[u8], tags: &'a [Tag], name: &[u8]) -> Option<&'a Tag>
     ensures { option_copied result ≡ find (λ t. alike name.now (text_in list.now t)) tags.now }
 {
-    tags.iter()
-        .find(|tag| equal_ignoring_case(name, text_at(list, tag.place)))
+    tags.iter().find(|tag| is_called(list, tag, name))
 }
 
 // Whether a name is spelled as the first tag that is so called, if one is.
@@ -170,8 +180,8 @@ fn is_spelled(list: &[u8], name: &[u8], twin: Option<&Tag>) -> bool
 /// Looks at the tag at a place, behind the tags before it, and puts down the rows of the structs above it.
 pub fn see_tag(files: &Files, place: u16, before: &[Tag], rows: &mut Rows) -> Tag
     requires limited { Limited (text_at files.now.list.now place) }
-    requires few { length before.now < 256 }
-    requires room { length rows.old + 64 ≤ 16384 }
+    requires few { length before.now < MOST_TAGS }
+    requires room { length rows.old + MOST_LEVELS ≤ MOST_ROWS }
     ensures place { result.place ≡ place }
     ensures tag { let catalog = files.now.catalog.now in
         let list = files.now.list.now in

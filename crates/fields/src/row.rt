@@ -59,6 +59,7 @@ impl Field for Text {
 }
 
 /// A text of at most `max` bytes in which no index or count is above `most`.
+// `check` has the body of `Number`'s: two limits each, for calls of two functions.
 #[derive(Clone, Copy, Debug, PartialEq, Eq)]
 pub struct IndexedText {
     pub max: usize,
@@ -160,6 +161,7 @@ impl<F: Field> Field for Counted<F> {
 }
 
 /// Byte 0, or byte 1 and a field.
+// The flag is a number of the file that is compared with 0: a truth made of it would be the same test in one function more.
 #[derive(Clone, Copy, Debug, PartialEq, Eq)]
 pub struct Optional<F> {
     pub field: F,
@@ -192,6 +194,7 @@ impl<F: Field> Field for Optional<F> {
 }
 
 /// Checks `n` of a field in a row, of which the first stands at `from`.
+// `n` counts fields, here and below, of which there is no slice: where the next one stands is only known when this one is passed.
 #[tactic(auto, using(crate::proofs::Chains::row_checks))]
 pub fn check_many<F: Field>(field: &F, s: &[u8], from: usize, n: usize) -> Result<usize, Refusal>
     ensures { result ≡ check_at (many (F.format field.now) n) s.now from }
@@ -216,7 +219,7 @@ pub fn past_many<F: Field>(field: &F, s: &[u8], from: usize, n: usize) -> usize
 }
 
 /// The places of a field that repeats, one behind the other.
-#[derive(Clone, Copy)]
+#[derive(Clone, Copy, Debug, PartialEq, Eq)]
 pub struct Places<'a, F> {
     pub field: F,
     pub file: &'a [u8],
@@ -233,18 +236,16 @@ impl<'a, F: Field + Copy> Iterator for Places<'a, F> {
 
     #[tactic(auto, using(crate::proofs::Passing::places))]
     fn next(&mut self) -> Option<usize> {
-        if self.left == 0 {
-            return None;
-        }
+        let left = self.left.checked_sub(1)?;
         let at = self.at;
         self.at = self.field.past(self.file, at);
-        self.left -= 1;
+        self.left = left;
         Some(at)
     }
 }
 
 /// Texts in a row, one behind the other.
-#[derive(Clone, Copy)]
+#[derive(Clone, Copy, Debug, PartialEq, Eq)]
 pub struct Texts<'a> {
     pub file: &'a [u8],
     pub at: usize,
@@ -260,12 +261,10 @@ impl<'a> Iterator for Texts<'a> {
 
     #[tactic(auto, using(crate::proofs::Passing::places))]
     fn next(&mut self) -> Option<&'a [u8]> {
-        if self.left == 0 {
-            return None;
-        }
+        let left = self.left.checked_sub(1)?;
         let text = text_at(self.file, self.at);
         self.at = text_past(self.file, self.at);
-        self.left -= 1;
+        self.left = left;
         Some(text)
     }
 }

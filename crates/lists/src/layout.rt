@@ -1,12 +1,13 @@
 // What a list file is made of, in the order in which it stands there, with the limits of each field.
 use fields::Width;
+use fields::number::{GREATEST_OF_FOUR, GREATEST_OF_TWO};
 use fields::row::{Counted, IndexedText, Number, Text};
 
 /// The most bytes of a list file.
 pub const LONGEST_FILE: usize = 16384;
-/// The most no-group names, and the most bytes of one.
+/// The most no-group names.
 pub const MOST_NO_GROUP: usize = 256;
-
+/// The most bytes of a no-group name.
 pub const LONGEST_NO_GROUP: usize = 136;
 /// The most together names.
 pub const MOST_TOGETHER: usize = 64;
@@ -20,12 +21,12 @@ pub const GREATEST_INDEX: u64 = 1000000;
 /// The most bytes of a struct that is read whole.
 pub const WHOLE_MAX: Number = Number {
     width: Width::Four,
-    max: 4294967295,
+    max: GREATEST_OF_FOUR,
 };
 /// The bytes of a packet.
 pub const BUDGET: Number = Number {
     width: Width::Two,
-    max: 65535,
+    max: GREATEST_OF_TWO,
 };
 /// The names, in lower case, that are never read with others.
 pub const NO_GROUP: Counted<Text> = Counted {

@@ -7,7 +7,7 @@ use Rattle.std.specs.Option.{is_some}
 use borrow.Author.Tests.{ltb-true, ltb-false}
 use lib.Dec.{ltb}
 use mathlib.Core.Bool.{false≢true, true≢false}
-use Rattle.std.specs.Prelude.{None, Some}
+use Rattle.std.specs.Prelude.{None, Option, Some}
 use Rattle.std.specs.List.{position, position_or_len}
 use Rattle.nesting.specs.declared.graph.Graph.{Graph}
 use Rattle.nesting.specs.Graph.{is_set, linked, any_from, first_from, onward, listed}
@@ -81,3 +81,10 @@ listed-none n x e = go (ltb x n) refl e
     go : (b : Bool) → ltb x n ≡ b → is_some (cond b (Some x) None) ≡ false → n ≤ x
     go false h q = ltb-false x n h
     go true h q = absurd (true≢false q)
+
+-- by the words of the code: `r` is what was found, and `b` whether something was
+pub found_within : (n x : ℕ) (r : Option ℕ) (b : Bool) → r ≡ listed n x → b ≡ is_some r → b ≡ true → x < n
+found_within n x r b e g h = listed-some n x (sym (ap is_some e) ∙ sym g ∙ h)
+
+pub found_none : (n x : ℕ) (r : Option ℕ) (b : Bool) → r ≡ listed n x → b ≡ is_some r → b ≡ false → n ≤ x
+found_none n x r b e g h = listed-none n x (sym (ap is_some e) ∙ sym g ∙ h)

@@ -5,49 +5,46 @@ ghost use Rattle.nodes.specs.Placed.{tag_place};
 ghost use Rattle.catalog.specs.Alike.{tag_places, type_places};
 
 use crate::find::find_node_in;
-use catalog::layout::{MOST_TAGS, MOST_TYPES};
+use crate::place::{tag_count, tags_start, type_count, types_start};
+use crate::table::fill;
+use catalog::layout::{MOST_TAGS, MOST_TYPES, NodeField, TypeField};
+use fields::table::Table;
 use std::marker::Model;
 
 /// A catalog file with the places of its tags and types; a clause sees it as the bytes of its file. Making one fills 9 KB, so make
 /// it once for a whole call and lend it.
+// No `Debug` and no `PartialEq`: a table has none.
 #[derive(Drop)]
 pub struct Opened<'a> {
     file: &'a [u8],
-    tags: [usize; MOST_TAGS],
-    tag_count: usize,
-    types: [usize; MOST_TYPES],
-    type_count: usize,
+    tags: Table<usize, MOST_TAGS>,
+    types: Table<usize, MOST_TYPES>,
 }
 
 impl<'a> Model for Opened<'a> {
-    ghost use Rattle.std.specs.Prelude.{ℕ, List, take, ◌≡◌, ◌≤◌};
+    ghost use Rattle.std.specs.Prelude.{ℕ, List, ◌≡◌};
     ghost use Rattle.catalog.specs.Alike.{tag_places, type_places};
 
     ghost Value = { List ℕ };
 
     ghost view = { λ opened. opened.file.now };
 
-    ghost invariant = { λ opened. (opened.tag_count ≤ 1024) × (opened.type_count ≤ 128)
-        × (take opened.tag_count opened.tags ≡ tag_places opened.file.now)
-        × (take opened.type_count opened.types ≡ type_places opened.file.now) };
+    ghost invariant = { λ opened. (opened.tags ≡ tag_places opened.file.now) × (opened.types ≡ type_places opened.file.now) };
 }
 
 impl<'a> Opened<'a> {
     /// The catalog file, with its places written down.
+    #[tactic(auto, using(crate::proofs::Tabling::opening))]
     pub fn open(file: &'a [u8]) -> Opened<'a>
         ensures { result ≡ file.now }
     {
-        let mut tags = [0; MOST_TAGS];
-        let mut types = [0; MOST_TYPES];
-        let tag_count = crate::table::tag_places(file, &mut tags);
-        let type_count = crate::table::type_places(file, &mut types);
-        Opened {
-            file,
-            tags,
-            tag_count,
-            types,
-            type_count,
-        }
+        let mut tags = Table::new(0);
+        let count = tag_count(file);
+        fill(&NodeField, file, tags_start(file), count, &mut tags);
+        let mut types = Table::new(0);
+        let count = type_count(file);
+        fill(&TypeField, file, types_start(file), count, &mut types);
+        Opened { file, tags, types }
     }
 
     /// The file itself.
@@ -61,14 +58,14 @@ impl<'a> Opened<'a> {
     pub fn tags(&self) -> &[usize]
         ensures { result.now ≡ tag_places self.now }
     {
-        &self.tags[..self.tag_count]
+        self.tags.rows()
     }
 
     /// Where the types stand, in the order of the file.
     pub fn types(&self) -> &[usize]
         ensures { result.now ≡ type_places self.now }
     {
-        &self.types[..self.type_count]
+        self.types.rows()
     }
 
     /// The place of the tag of a name.

@@ -1,22 +1,23 @@
--- A loop over two size tables side by side: the sizes that are left, one read more, and the end.
+-- A loop over two size tables side by side, and one over sizes: the sizes that are left, one read more, and the end.
 -- Assumes nothing.
-use Prim.Native.Nat.{ℕ, ◌+◌}
+use Prim.Native.Nat.{ℕ, ◌+◌, ◌≤◌, ◌<◌}
+use lib.ListN.{length, length-append, drop, get_or, drop_of_length-le}
 use mathlib.Core.Logic.{◌⊎◌, inl, inr}
-use mathlib.Core.Path.{◌≡◌, refl, sym, ap₂, subst}
-use mathlib.Core.List.{List, [], ◌∷◌}
-use native.Mathlib.Omega.{arith}
+use mathlib.Core.Path.{◌≡◌, refl, ap₂}
+use mathlib.Core.List.{List, [], ◌∷◌, append_assoc, append-nil}
 use denote.Ref.{Bor}
 use Rattle.std.specs.Prelude.{None, Option, Some}
-use Rattle.std.proofs.Common.{Iter}
+use Rattle.std.proofs.Common.{Iter, add-one}
+use Rattle.std.proofs.Math.Seq.{drop-cons}
 use Rattle.std.specs.declared.iter.Zip.{Zip}
-use Rattle.std.specs.declared.iter.Enumerate.{Enumerate}
 use Rattle.std.proofs.iter.Yields.{fronts}
 use Rattle.std.proofs.lemmas.Iterator.{zips}
 use Rattle.std.proofs.lemmas.Slice.Zip.{Zip-more, either_empty_from_Zip}
-use Rattle.std.specs.Iterator.Adapters.{zip_first, zip_second, enumerate_source, enumerate_count, enumerate_steps}
+use Rattle.std.specs.Iterator.Adapters.{zip_first, zip_second}
 use Rattle.std.specs.Slice.Iter.{iter_rest}
 use Rattle.fields.specs.declared.Size.{Size}
 use Rattle.packing.specs.Tables.{sizes_of}
+use Rattle.packing.proofs.Sizing.{sizes-few}
 
 -- the sizes that a `zip` of two tables has left
 abbrev pub left : Zip (Iter ℕ) (Iter ℕ) → List Size
@@ -40,27 +41,13 @@ module _ (s t : Zip (Iter ℕ) (Iter ℕ)) (r : Option (Bor ℕ × Bor ℕ)) whe
       go [] us (inr e) = refl
       go (n ∷ ts) us (inr e) = rw e refl
 
--- with the position of each read
-abbrev pub Reads : Type 0
-Reads = Enumerate (Zip (Iter ℕ) (Iter ℕ))
+-- what is kept and what is left
+pub ruleset sized = (append_assoc, append-nil, length-append, sizes-few)
 
--- the sizes left
-abbrev pub sizes_left : Reads → List Size
-sizes_left s = left (enumerate_source s)
+-- ---- a table of sizes, by their positions
+module _ (zs : List Size) (i : ℕ) where
+  pub sizes_next : (d : Size) → i < length zs → drop i zs ≡ get_or zs i d ∷ drop (i + 1) zs
+  sizes_next d h = rw add-one (drop-cons zs i d h)
 
--- the read at position `k`, of size `z`, stands between `s` and `t`
-pub record Next (s t : Reads) (k : ℕ) (z : Size) : Type 0 where
-  pub more : sizes_left s ≡ z ∷ sizes_left t
-  pub here : enumerate_count s ≡ k
-  pub behind : enumerate_count t ≡ k + 1
-
-module _ (s t : Reads) (r : Option (ℕ × (Bor ℕ × Bor ℕ))) where
-  pub next-read : (p : ℕ × (Bor ℕ × Bor ℕ)) → r ≡ Some p → enumerate_steps (zips fronts fronts) s r t → Next s t p.0 (size_of p.1)
-  next-read p e y =
-      let w : enumerate_steps (zips fronts fronts) s (Some p) t = subst (λ o. enumerate_steps (zips fronts fronts) s o t) e y in
-      record { more = left-more (enumerate_source s) (enumerate_source t) (Some p.1) p.1 refl w.0; here = sym w.1; behind = omega (arith, w.1, w.2) }
-
-  pub no-read : r ≡ None → enumerate_steps (zips fronts fronts) s r t → sizes_left s ≡ []
-  no-read e y =
-      let w : enumerate_steps (zips fronts fronts) s None t = subst (λ o. enumerate_steps (zips fronts fronts) s o t) e y in
-      left-none (enumerate_source s) (enumerate_source t) None refl w.0
+  pub sizes_end : length zs ≤ i → drop i zs ≡ []
+  sizes_end h = drop_of_length-le zs h

@@ -3,15 +3,18 @@
 
 #![tactic(auto)]
 
+use catalog::layout::LONGEST_FILE as LONGEST_CATALOG;
 use fields::check::{text_at, text_past};
 use fields::number::{number_at, past, raw};
 use fields::row::{Counted, Field, Number, Places};
 use fields::{Refusal, Width};
 use groups::plan_chunks;
 use lists::check::check_list;
+use lists::layout::LONGEST_FILE as LONGEST_LIST;
 use lists::read::budget;
-use planning::plan::plan;
-use plans::layout::{KEYS, KeyKind, LONGEST_FILE, MEMBERS, MOST_READS, READS, key_kind_at};
+use plans::layout::{
+    KEYS, KeyKind, LONGEST_FILE as LONGEST_PLAN, MEMBERS, MOST_READS, READS, key_kind_at,
+};
 use queries::check_catalog;
 use std::alloc::Global;
 use std::fs::File;
@@ -41,7 +44,7 @@ fn told<T>(what: &'static str, answer: Result<T, Refusal>) -> Result<T, Refused>
 }
 
 /// The bytes of a text, each one character: in a file that is accepted they are printable ASCII.
-#[derive(Clone, Copy)]
+#[derive(Clone, Copy, Debug, PartialEq, Eq)]
 struct Spelled<'a>(&'a [u8]);
 
 impl fmt::Display for Spelled<'_> {
@@ -63,8 +66,14 @@ fn items<'a, F: Field + Copy>(row: Counted<F>, file: &'a [u8], at: usize) -> Pla
     }
 }
 
+// Where the field behind the flag at a place stands, if there is one.
+fn held_at(file: &[u8], at: usize) -> Option<usize> {
+    // Compared with 1, as `Optional` compares it with 0: a byte of a file has no type of its own.
+    (number_at(file, at, Width::One, 1) == 1).then_some(past(file, at, 1))
+}
+
 /// The key at a place of a plan: `.name` or `[n]`.
-#[derive(Clone, Copy)]
+#[derive(Clone, Copy, Debug, PartialEq, Eq)]
 struct Step<'a> {
     file: &'a [u8],
     at: usize,
@@ -73,17 +82,15 @@ struct Step<'a> {
 impl fmt::Display for Step<'_> {
     fn fmt<W: fmt::Write>(&self, f: &mut fmt::Formatter<W>) -> fmt::Result {
         let behind = past(self.file, self.at, 1);
-        match key_kind_at(self.file, self.at) {
-            KeyKind::Member => write!(f, ".{}", Spelled(text_at(self.file, behind))),
-            KeyKind::Index | KeyKind::Several => {
-                write!(f, "[{}]", raw(self.file, behind, Width::Four))
-            }
+        if key_kind_at(self.file, self.at) == KeyKind::Member {
+            return write!(f, ".{}", Spelled(text_at(self.file, behind)));
         }
+        write!(f, "[{}]", raw(self.file, behind, Width::Four))
     }
 }
 
 /// The member at a place of a plan: a line with its tag, and its path if it has one.
-#[derive(Clone, Copy)]
+#[derive(Clone, Copy, Debug, PartialEq, Eq)]
 struct Member<'a> {
     file: &'a [u8],
     at: usize,
@@ -93,10 +100,9 @@ impl fmt::Display for Member<'_> {
     fn fmt<W: fmt::Write>(&self, f: &mut fmt::Formatter<W>) -> fmt::Result {
         let file = self.file;
         write!(f, "tag {}", Spelled(text_at(file, self.at)))?;
-        let flag = text_past(file, self.at);
-        if number_at(file, flag, Width::One, 1) == 1 {
+        if let Some(keys) = held_at(file, text_past(file, self.at)) {
             write!(f, " path ")?;
-            for at in items(KEYS, file, past(file, flag, 1)) {
+            for at in items(KEYS, file, keys) {
                 write!(f, "{}", Step { file, at })?;
             }
         }
@@ -105,7 +111,7 @@ impl fmt::Display for Member<'_> {
 }
 
 /// The read at a place of a plan: a line with its name, and its members.
-#[derive(Clone, Copy)]
+#[derive(Clone, Copy, Debug, PartialEq, Eq)]
 struct ReadView<'a> {
     file: &'a [u8],
     at: usize,
@@ -132,22 +138,24 @@ const GROUP: Counted<Number> = Counted {
     },
 };
 
-// The groups of a groups file, which stand behind its version and its packet count.
+// The groups of a groups file.
 const GROUPS: Counted<Counted<Number>> = Counted {
     width: Width::Two,
     max: MOST_READS,
     field: GROUP,
 };
 
+// Where the packet count of a groups file stands, behind its version.
 const PACKETS_AT: usize = 1;
 
+// Where its groups stand.
 const GROUPS_AT: usize = 9;
 
 // More bytes than the groups of any plan have.
 const LONGEST_GROUPS: usize = 2048;
 
 /// The group at a place of a groups file: a line with its number, and its reads, each by its position in the plan.
-#[derive(Clone, Copy)]
+#[derive(Clone, Copy, Debug, PartialEq, Eq)]
 struct Group<'r, 'a> {
     number: usize,
     reads: &'r [ReadView<'a>],
@@ -167,6 +175,66 @@ impl fmt::Display for Group<'_, '_> {
     }
 }
 
+/// A plan by its reads and its groups file: a line with how many reads and packets there are, and its groups, numbered from 1.
+#[derive(Clone, Copy, Debug, PartialEq, Eq)]
+struct Listing<'r, 'a> {
+    reads: &'r [ReadView<'a>],
+    groups: &'a [u8],
+}
+
+impl fmt::Display for Listing<'_, '_> {
+    fn fmt<W: fmt::Write>(&self, f: &mut fmt::Formatter<W>) -> fmt::Result {
+        let file = self.groups;
+        let packets = raw(file, PACKETS_AT, Width::Eight);
+        writeln!(f, "plan {} reads {packets} packets", self.reads.len())?;
+        for (number, at) in (1..).zip(items(GROUPS, file, GROUPS_AT)) {
+            let reads = self.reads;
+            let group = Group {
+                number,
+                reads,
+                file,
+                at,
+            };
+            write!(f, "{group}")?;
+        }
+        Ok(())
+    }
+}
+
+/// What is planned: a list over a catalog.
+#[derive(Clone, Copy, Debug, PartialEq, Eq)]
+struct Inputs<'a> {
+    catalog: &'a [u8],
+    list: &'a [u8],
+}
+
+impl Inputs<'_> {
+    // Writes the plan, or tells what is refused.
+    fn plan(&self, plan: &mut Vec<u8>) -> Result<(), Refused> {
+        told("catalog", check_catalog(self.catalog))?;
+        told("list", check_list(self.list))?;
+        let length = told(
+            "plan",
+            planning::plan::plan(self.catalog, self.list, plan.as_mut_slice()),
+        )?;
+        plan.truncate(length);
+        Ok(())
+    }
+
+    // Writes the groups of the plan's reads, or tells what is refused.
+    fn group(&self, plan: &[u8], groups: &mut [u8]) -> Result<(), Refused> {
+        let written = plan_chunks(self.catalog, plan, budget(self.list), groups);
+        told("groups", written)?;
+        Ok(())
+    }
+
+    // Writes the plan and its groups, or tells what is refused.
+    fn make(&self, plan: &mut Vec<u8>, groups: &mut Vec<u8>) -> Result<(), Refused> {
+        self.plan(plan)?;
+        self.group(plan.as_slice(), groups.as_mut_slice())
+    }
+}
+
 // Prints a plan by its file and its groups file.
 fn print_plan<'a>(
     alloc: Global,
@@ -177,51 +245,21 @@ fn print_plan<'a>(
     let reads = items(READS, file, 1)
         .map(|at| ReadView { file, at })
         .collect::<Vec<_>>(alloc)?;
-    let packets = raw(groups, PACKETS_AT, Width::Eight);
-    writeln!(out, "plan {} reads {packets} packets", reads.len())?;
-    for (number, at) in (1..).zip(items(GROUPS, groups, GROUPS_AT)) {
-        let group = Group {
-            number,
-            reads: reads.as_slice(),
-            file: groups,
-            at,
-        };
-        write!(out, "{group}")?;
-    }
-    Ok(())
-}
-
-// Writes the plan of a list and its groups, or tells what is refused.
-fn make(
-    catalog: &[u8],
-    list: &[u8],
-    file: &mut Vec<u8>,
-    groups: &mut Vec<u8>,
-) -> Result<(), Refused> {
-    told("catalog", check_catalog(catalog))?;
-    told("list", check_list(list))?;
-    let length = told("plan", plan(catalog, list, file.as_mut_slice()))?;
-    file.truncate(length);
-    told(
-        "groups",
-        plan_chunks(
-            catalog,
-            file.as_slice(),
-            budget(list),
-            groups.as_mut_slice(),
-        ),
-    )?;
-    Ok(())
+    let listing = Listing {
+        reads: reads.as_slice(),
+        groups,
+    };
+    write!(out, "{listing}")
 }
 
 // Plans, and prints the plan.
-fn show(alloc: Global, out: &mut impl Write, catalog: &[u8], list: &[u8]) -> io::Result<()> {
-    let mut file = vec![in alloc; 0; LONGEST_FILE]?;
+fn show(alloc: Global, out: &mut impl Write, inputs: Inputs) -> io::Result<()> {
+    let mut plan = vec![in alloc; 0; LONGEST_PLAN]?;
     let mut groups = vec![in alloc; 0; LONGEST_GROUPS]?;
-    match make(catalog, list, &mut file, &mut groups) {
-        Ok(()) => print_plan(alloc, out, file.as_slice(), groups.as_slice()),
-        Err(refused) => writeln!(out, "{refused}"),
+    if let Err(refused) = inputs.make(&mut plan, &mut groups) {
+        return writeln!(out, "{refused}");
     }
+    print_plan(alloc, out, plan.as_slice(), groups.as_slice())
 }
 
 // Reads the file of a path. Of a longer file than any that is accepted no more than the bytes that show it are read.
@@ -242,19 +280,18 @@ fn read_file<R: Files + AllocGlobal + Eprint>(
         .as_deref()
         .filter(|path| !path.is_empty())
         .unwrap_or(other);
-    match read_path(rt, path, most) {
-        Ok(bytes) => Ok(Some(bytes)),
-        Err(e) => {
-            eprintln!(rt; "{path}: {e}")?;
-            Ok(None)
-        }
+    let read = read_path(rt, path, most);
+    if let Err(e) = &read {
+        eprintln!(rt; "{path}: {e}")?;
     }
+    Ok(read.ok())
 }
 
-// One byte more than a catalog and a list that are accepted may have.
-const CATALOG_MOST: u64 = 65537;
+// One byte more than a catalog that is accepted may have.
+const CATALOG_MOST: u64 = LONGEST_CATALOG as u64 + 1;
 
-const LIST_MOST: u64 = 16385;
+// One byte more than a list that is accepted may have.
+const LIST_MOST: u64 = LONGEST_LIST as u64 + 1;
 
 fn main(rt: HostRuntime) -> io::Result<()> {
     let mut args = env::args(&rt)?;
@@ -265,7 +302,11 @@ fn main(rt: HostRuntime) -> io::Result<()> {
     let list = read_file(&rt, &second, "examples/motor.list", LIST_MOST)?;
     let mut out = BufWriter::new(rt.alloc(), io::writer(&rt))?;
     if let (Some(catalog), Some(list)) = (&catalog, &list) {
-        show(rt.alloc(), &mut out, catalog.as_slice(), list.as_slice())?;
+        let inputs = Inputs {
+            catalog: catalog.as_slice(),
+            list: list.as_slice(),
+        };
+        show(rt.alloc(), &mut out, inputs)?;
     }
     out.flush()
 }

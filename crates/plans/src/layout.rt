@@ -1,13 +1,15 @@
 // What a plan file is made of, in the order in which it stands there: keys, paths, members and reads with their limits.
 // Each is checked and passed as the specification's format of the same name says.
 ghost use Rattle.std.specs.Prelude.{◌≡◌};
+ghost use Rattle.fields.specs.Format.{◌then◌};
 ghost use Rattle.fields.specs.Fields.{choice};
 ghost use Rattle.fields.specs.Places.{value_at};
 ghost use Rattle.plans.specs.Plans.{Step, step, Member, member, Read, read};
 ghost use Rattle.plans.specs.Access.{key_kind};
+ghost use Rattle.fields.specs.Seamless.{seamless_then};
 ghost use Rattle.plans.specs.Seamless.{seamless_step, seamless_member, seamless_read};
 
-use fields::number::number_at;
+use fields::number::{GREATEST_OF_FOUR, number_at};
 use fields::row::{Choice, Counted, Field, IndexedText, Number, Optional, Text};
 use fields::{Checked, Width};
 
@@ -33,7 +35,7 @@ pub const NAME: Text = Text { max: LONGEST_NAME };
 /// An index in a key.
 pub const INDEX: Number = Number {
     width: Width::Four,
-    max: 4294967295,
+    max: GREATEST_OF_FOUR,
 };
 /// The keys of a path.
 pub const KEYS: Counted<KeyField> = Counted {
@@ -48,11 +50,21 @@ pub const READ_NAME: IndexedText = IndexedText {
     max: LONGEST_READ,
     most: GREATEST_INDEX,
 };
+/// The parts of a member: its tag and its path.
+pub const MEMBER_PARTS: Pair<Text, Optional<Counted<KeyField>>> = Pair {
+    first: NAME,
+    second: PATH,
+};
 /// The members of a read.
 pub const MEMBERS: Counted<MemberField> = Counted {
     width: Width::Two,
     max: MOST_MEMBERS,
     field: MemberField,
+};
+/// The parts of a read: its name and its members.
+pub const READ_PARTS: Pair<IndexedText, Counted<MemberField>> = Pair {
+    first: READ_NAME,
+    second: MEMBERS,
 };
 /// The reads of a plan.
 pub const READS: Counted<ReadField> = Counted {
@@ -61,7 +73,34 @@ pub const READS: Counted<ReadField> = Counted {
     field: ReadField,
 };
 
+/// A field and the one that stands behind it.
+#[derive(Clone, Copy, Debug, PartialEq, Eq)]
+pub struct Pair<A, B> {
+    pub first: A,
+    pub second: B,
+}
+
+impl<A: Field, B: Field> Field for Pair<A, B> {
+    ghost Shape = { A.Shape × B.Shape };
+
+    ghost format = { λ pair. A.format pair.first then B.format pair.second };
+
+    ghost seamless = { λ pair. seamless_then (A.format pair.first) (B.format pair.second) (A.seamless pair.first) (B.seamless pair.second) };
+
+    #[tactic(auto, using(crate::proofs::Pairs::checks))]
+    fn check(&self, s: &[u8], at: usize) -> Checked {
+        let behind = self.first.check(s, at)?;
+        self.second.check(s, behind)
+    }
+
+    #[tactic(auto, using(crate::proofs::Pairs::passes))]
+    fn past(&self, s: &[u8], at: usize) -> usize {
+        self.second.past(s, self.first.past(s, at))
+    }
+}
+
 /// What a key leads to: a member by its name, an element by its index, or the first of several elements.
+// Names alone, with an arm each: what a byte of the file means, told by `key_kind_at` in one place.
 #[derive(Clone, Copy, Debug, PartialEq, Eq)]
 pub enum KeyKind {
     Member,
@@ -124,13 +163,12 @@ impl Field for MemberField {
 
     #[tactic(auto, using(crate::proofs::Steps::checks))]
     fn check(&self, s: &[u8], at: usize) -> Checked {
-        let path_at = NAME.check(s, at)?;
-        PATH.check(s, path_at)
+        MEMBER_PARTS.check(s, at)
     }
 
     #[tactic(auto, using(crate::proofs::Places::passes))]
     fn past(&self, s: &[u8], at: usize) -> usize {
-        PATH.past(s, NAME.past(s, at))
+        MEMBER_PARTS.past(s, at)
     }
 }
 
@@ -147,12 +185,11 @@ impl Field for ReadField {
 
     #[tactic(auto, using(crate::proofs::Steps::checks))]
     fn check(&self, s: &[u8], at: usize) -> Checked {
-        let members_at = READ_NAME.check(s, at)?;
-        MEMBERS.check(s, members_at)
+        READ_PARTS.check(s, at)
     }
 
     #[tactic(auto, using(crate::proofs::Places::passes))]
     fn past(&self, s: &[u8], at: usize) -> usize {
-        MEMBERS.past(s, READ_NAME.past(s, at))
+        READ_PARTS.past(s, at)
     }
 }

@@ -1,7 +1,7 @@
 -- Records that are lent, and the reads that they tell.
 use Rattle.std.proofs.Common.{◌≡◌, ◌<◌, ℕ, zero, suc, List, [], ◌∷◌, length, map, get_or, refl, ap, ◌∙◌, arith}
 use Rattle.reads.specs.declared.row.Row.{Row}
-use Rattle.reads.specs.Held.{Held, no_held, size_of}
+use Rattle.reads.specs.Held.{no_held, size_of}
 use Rattle.reads.specs.Rows.{held_in, size_in}
 
 module _ (members : List ℕ) where

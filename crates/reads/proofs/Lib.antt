@@ -6,6 +6,5 @@ pub mod Telling
 pub mod Starting
 pub mod Filling
 pub mod Setting
-pub mod Extents
 pub mod Lent
 pub mod Marked

@@ -5,32 +5,34 @@ ghost use Rattle.reads.specs.Held.{count_of, reply_of, is_covered, served};
 ghost use Rattle.reads.specs.Rows.{held_in};
 
 use crate::row::Row;
+use lists::layout::MOST_TAGS;
 
 /// What covered reads come to: how many they are, and the bytes of their replies together.
-#[derive(Clone, Copy)]
+#[derive(Clone, Copy, Debug, PartialEq, Eq)]
 pub struct Covered {
     pub count: usize,
-    pub reply: u64,
+    pub reply: u128,
 }
 
 /// What the covered ones come to.
-pub(crate) fn total(rows: &[Row], members: &[u8; 256], marks: &[bool; 256]) -> Covered
-    requires few { length rows.now ≤ 256 }
+// Records, positions and marks apart, here and in the packing: a struct of them is no plainer, with ghost fields for its lengths and a
+// file and a method of its own. Counted in a loop: chains would test each record twice.
+pub(crate) fn total(rows: &[Row], members: &[u8; MOST_TAGS], marks: &[bool; MOST_TAGS]) -> Covered
+    requires few { length rows.now ≤ MOST_TAGS }
     ensures count { result.count
         ≡ length (keep (is_covered marks.now) (map (held_in members.now) rows.now)) }
-    ensures within { result.count ≤ 256 }
+    ensures within { result.count ≤ MOST_TAGS }
     ensures reply { result.reply
         ≡ sum_by reply_of (keep (is_covered marks.now) (map (held_in members.now) rows.now)) }
-    ensures small { result.reply ≤ 2 ^ 48 }
+    ensures small { result.reply ≤ 2 ^ 72 }
 {
     let mut count: usize = 0;
-    let mut reply: u64 = 0;
+    let mut reply: u128 = 0;
     for row in rows {
-        if !row.is_covered(members, marks) {
-            continue;
+        if row.is_covered(members, marks) {
+            count += 1;
+            reply += u128::from(row.reply);
         }
-        count += 1;
-        reply += row.reply;
     }
     Covered { count, reply }
 }
@@ -38,24 +40,24 @@ pub(crate) fn total(rows: &[Row], members: &[u8; 256], marks: &[bool; 256]) -> C
 /// The positions of the covered ones, from the front of a buffer on; how many they are.
 pub(crate) fn unite(
     rows: &[Row],
-    members: &[u8; 256],
-    marks: &[bool; 256],
-    out: &mut [u8; 256],
+    members: &[u8; MOST_TAGS],
+    marks: &[bool; MOST_TAGS],
+    out: &mut [u8; MOST_TAGS],
 ) -> usize
-    requires few { sum_by count_of (map (held_in members.now) rows.now) ≤ 256 }
-    ensures positions { take result out.new ≡ served (keep (is_covered marks.now) (map (held_in members.now) rows.now)) }
-    ensures within { result ≤ 256 }
+    requires few { sum_by count_of (map (held_in members.now) rows.now) ≤ MOST_TAGS }
+    ensures positions { take result out.new
+        ≡ served (keep (is_covered marks.now) (map (held_in members.now) rows.now)) }
+    ensures within { result ≤ MOST_TAGS }
 {
     let mut n = 0;
     for row in rows {
-        if !row.is_covered(members, marks) {
-            continue;
+        if row.is_covered(members, marks) {
+            let serves = row.serves(members);
+            let end = n + serves.len();
+            prove!(end <= MOST_TAGS);
+            out[n..end].copy_from_slice(serves);
+            n = end;
         }
-        let serves = row.serves(members);
-        let end = n + serves.len();
-        prove!(end <= 256);
-        out[n..end].copy_from_slice(serves);
-        n = end;
     }
     n
 }

@@ -13,7 +13,7 @@ mod row;
 mod table;
 
 pub use cover::Covered;
-pub use extent::{Extent, extent_of};
+pub use extent::{Extent, wider};
 pub use marks::mark;
 pub use row::{GroupRead, Read};
 pub use table::Reads;

@@ -8,10 +8,17 @@ ghost use Rattle.reads.specs.Told.{MergeTold};
 
 use crate::row::GroupRead;
 use crate::table::Reads;
+use lists::layout::MOST_TAGS;
 
 /// The reads, of which the first covered one grows into the read of a group, and the other covered ones are left out.
 #[tactic(auto, using(crate::proofs::Placing::place_start, crate::proofs::Placing::room_few, crate::proofs::Placing::place_other, crate::proofs::Placing::place_first, crate::proofs::Placing::room_counts))]
-fn put_merged(old: &Reads, marks: &[bool; 256], serves: &[u8], into: GroupRead, out: &mut Reads)
+fn put_merged(
+    old: &Reads,
+    marks: &[bool; MOST_TAGS],
+    serves: &[u8],
+    into: GroupRead,
+    out: &mut Reads,
+)
     requires empty { out.old ≡ [] }
     requires united { serves.now ≡ served (keep (is_covered marks.now) old.now) }
     ensures { out.new ≡ in_place (is_covered marks.now) (grouped into serves.now) old.now }
@@ -22,23 +29,21 @@ fn put_merged(old: &Reads, marks: &[bool; 256], serves: &[u8], into: GroupRead, 
         let covered = read.is_covered(marks);
         if !covered {
             out.push(read);
-            continue;
+        } else if !placed {
+            out.push_grown(read, serves, into);
+            placed = true;
         }
-        if placed {
-            continue;
-        }
-        out.push_grown(read, serves, into);
-        placed = true;
     }
 }
 
 impl Reads {
     /// The covered reads become one, the read of a group, which serves the positions of all of them.
-    pub fn merge(&mut self, marks: &[bool; 256], into: GroupRead)
+    // Cut at a count: the positions stand at the front of an array, since nothing here may allocate.
+    pub fn merge(&mut self, marks: &[bool; MOST_TAGS], into: GroupRead)
         ensures merged { self.new ≡ merged marks.now into self.old }
         ensures told { MergeTold marks.now into self.old self.new }
     {
-        let mut positions = [0; 256];
+        let mut positions = [0; MOST_TAGS];
         let n = self.unite(marks, &mut positions);
         let old = self.copy();
         self.clear();

@@ -6,16 +6,18 @@ ghost use Rattle.reads.specs.Held.{is_covered, sized, packets_in};
 ghost use Rattle.reads.specs.Rows.{held_in, size_in};
 
 use crate::row::Row;
+use lists::layout::MOST_TAGS;
 use packing::Cost;
 use packing::count::{start, step};
 
 /// The packets of the reads, a read of these sizes being in the place of the first covered one, and the other covered ones left out.
+// One read stands in the place of several: so it is no `fill_all`. `cost` and `budget` go side by side, as in `packing`.
 pub(crate) fn packets_with(
     cost: Cost,
     budget: u16,
     rows: &[Row],
-    members: &[u8; 256],
-    marks: &[bool; 256],
+    members: &[u8; MOST_TAGS],
+    marks: &[bool; MOST_TAGS],
     request: u64,
     reply: u64,
 ) -> u64
@@ -26,13 +28,10 @@ pub(crate) fn packets_with(
     for row in rows {
         if !row.is_covered(members, marks) {
             filling = step(cost, budget, filling, row.request, row.reply);
-            continue;
+        } else if !placed {
+            filling = step(cost, budget, filling, request, reply);
+            placed = true;
         }
-        if placed {
-            continue;
-        }
-        filling = step(cost, budget, filling, request, reply);
-        placed = true;
     }
     filling.packets
 }

@@ -5,17 +5,19 @@ ghost use Rattle.reads.specs.Rows.{serves_in, held_in, held, GrownBy};
 
 use crate::marks::all_marked;
 use crate::row::{GroupRead, Read, Row};
+use lists::layout::MOST_TAGS;
 
 impl Row {
     /// The positions of the tags that it serves.
-    pub(crate) fn serves<'a>(&self, members: &'a [u8; 256]) -> &'a [u8]
+    pub(crate) fn serves<'a>(&self, members: &'a [u8; MOST_TAGS]) -> &'a [u8]
         ensures { result.now ≡ serves_in members.now self.now }
     {
-        &members[self.from as usize..self.to as usize]
+        &members[usize::from(self.from)..usize::from(self.to)]
     }
 
     /// Whether the positions that it serves are all marked.
-    pub(crate) fn is_covered(&self, members: &[u8; 256], marks: &[bool; 256]) -> bool
+    // The positions of all reads are lent beside the record that cuts them.
+    pub(crate) fn is_covered(&self, members: &[u8; MOST_TAGS], marks: &[bool; MOST_TAGS]) -> bool
         ensures { result ≡ is_covered marks.now (held_in members.now self.now) }
     {
         all_marked(self.serves(members), marks)
@@ -23,7 +25,7 @@ impl Row {
 
     /// It takes in others: so many positions more, behind its own, and it becomes the read of a group.
     pub(crate) fn grow(&mut self, more: u16, into: GroupRead)
-        requires room { self.old.to + more ≤ 256 }
+        requires room { self.old.to + more ≤ MOST_TAGS }
         ensures { GrownBy self.old more into self.new }
     {
         self.group = Some(into.group);
@@ -37,7 +39,7 @@ impl Row {
 
 impl Read<'_> {
     /// Whether the positions that it serves are all marked.
-    pub(crate) fn is_covered(&self, marks: &[bool; 256]) -> bool
+    pub(crate) fn is_covered(&self, marks: &[bool; MOST_TAGS]) -> bool
         ensures { result ≡ is_covered marks.now (held self.now) }
     {
         all_marked(self.serves, marks)

@@ -1,27 +1,28 @@
 //! The table of the reads under way.
-ghost use Rattle.std.specs.Prelude.{ℕ, ◌≡◌, ◌+◌, ◌*◌, ◌^◌, ◌<◌, ◌≤◌, [], ◌∷◌, ◌++◌, map, length, take, get_or, sum_by, IfSome};
+ghost use Rattle.std.specs.Prelude.{◌≡◌, ◌+◌, ◌^◌, ◌<◌, ◌≤◌, [], ◌∷◌, ◌++◌, length, take, get_or, sum_by};
 ghost use Rattle.fields.specs.Format.{All};
-ghost use Rattle.packing.specs.Tables.{sizes_of, largest_entry};
 ghost use Rattle.planner.specs.Lists.{keep};
 ghost use Rattle.planner.specs.Merging.{in_place};
-ghost use Rattle.names.specs.Pieces.{joined};
 ghost use Rattle.reads.specs.Held.{no_held, count_of, reply_of, is_covered, served, sized, packets_in};
 ghost use Rattle.reads.specs.Rows.{held, grouped};
-ghost use Rattle.reads.specs.Told.{plain_from, extent_of};
+ghost use Rattle.reads.specs.Told.{plain_from};
 
 use crate::cover::Covered;
-use crate::extent::{Extent, extent_of};
 use crate::row::{GroupRead, Read, Row};
 use crate::{cover, pack};
+use fields::Size;
+use lists::layout::MOST_TAGS;
 use packing::Cost;
 use std::marker::Model;
 
 /// The reads under way, at most 256, which serve 256 positions at most.
+// Arrays and how much of them is in use, and no `Table`: the positions of a read are put all at once, and a merge copies all. No `Debug`
+// and no `PartialEq`: what lies behind the reads in use would be printed and compared too.
 #[derive(Drop)]
 pub struct Reads {
-    rows: [Row; 256],
+    rows: [Row; MOST_TAGS],
     count: usize,
-    members: [u8; 256],
+    members: [u8; MOST_TAGS],
     used: usize,
 }
 
@@ -54,30 +55,30 @@ impl Reads {
             reply: 0,
         };
         Reads {
-            rows: [none; 256],
+            rows: [none; MOST_TAGS],
             count: 0,
-            members: [0; 256],
+            members: [0; MOST_TAGS],
             used: 0,
         }
     }
 
-    /// A plain read of each tag, by the bytes of its request and of its reply.
-    pub fn plain(requests: &[u64], replies: &[u64]) -> Self
-        requires alike { length requests.now ≡ length replies.now }
-        requires few { length requests.now ≤ 256 }
-        requires small { All (λ (n : ℕ). n ≤ largest_entry) replies.now }
-        ensures { result ≡ plain_from 0 (sizes_of requests.now replies.now) }
+    /// A plain read of each tag, by the sizes of its read: of the first 256, past which there is no tag.
+    pub fn plain(sizes: &[Size]) -> Self
+        ensures first { result ≡ plain_from 0 (take MOST_TAGS sizes.now) }
+        ensures all { length sizes.now ≤ MOST_TAGS → result ≡ plain_from 0 sizes.now }
     {
+        let first = &sizes[..sizes.len().min(MOST_TAGS)];
         let mut reads = Reads::new();
-        for i in 0..requests.len() {
+        // `as`, here and where a place is put: each is 256 at most; `try_from` would bring an error that cannot come.
+        for (i, size) in first.iter().enumerate() {
             let position = [i as u8];
             reads.push(Read {
                 group: None,
                 start: 0,
                 end: 0,
                 serves: &position,
-                request: requests[i],
-                reply: replies[i],
+                request: size.request,
+                reply: size.reply,
             });
         }
         reads
@@ -104,20 +105,29 @@ impl Reads {
     }
 
     /// How many reads there are.
+    // How many there are at most stands in a clause, here and below.
     pub fn len(&self) -> usize
         ensures len { result ≡ length self.now }
-        ensures within { result ≤ 256 }
-        ensures served { sum_by count_of self.now ≤ 256 }
+        ensures within { result ≤ MOST_TAGS }
+        ensures served { sum_by count_of self.now ≤ MOST_TAGS }
     {
         self.rows[..self.count].len()
     }
 
-    /// One read, lent.
+    /// A read by its number, lent; past the end a read of nothing.
     pub fn read(&self, i: usize) -> Read<'_>
-        requires within { i < length self.now }
         ensures { held result ≡ get_or self.now i no_held }
     {
-        prove!(i < self.len());
+        if self.len() <= i {
+            return Read {
+                group: None,
+                start: 0,
+                end: 0,
+                serves: &self.members[..0],
+                request: 0,
+                reply: 0,
+            };
+        }
         let row = self.rows[i];
         Read {
             group: row.group,
@@ -130,9 +140,10 @@ impl Reads {
     }
 
     /// One read more, behind the others.
+    // The count and the place are stepped by hand: a table is what has them.
     pub(crate) fn push(&mut self, read: Read)
-        requires few { length self.old < 256 }
-        requires room { sum_by count_of self.old + length read.serves.now ≤ 256 }
+        requires few { length self.old < MOST_TAGS }
+        requires room { sum_by count_of self.old + length read.serves.now ≤ MOST_TAGS }
         ensures { self.new ≡ self.old ++ held read.entry ∷ [] }
     {
         let from = self.used;
@@ -153,9 +164,9 @@ impl Reads {
 
     /// One read more, behind the others, which takes in others: it grows into the read of a group that serves these positions.
     pub(crate) fn push_grown(&mut self, read: Read, serves: &[u8], into: GroupRead)
-        requires few { length self.old < 256 }
+        requires few { length self.old < MOST_TAGS }
         requires more { length read.serves.now ≤ length serves.now }
-        requires room { sum_by count_of self.old + length serves.now ≤ 256 }
+        requires room { sum_by count_of self.old + length serves.now ≤ MOST_TAGS }
         ensures { self.new ≡ self.old ++ grouped into serves.now ∷ [] }
     {
         let from = self.used;
@@ -178,34 +189,26 @@ impl Reads {
     }
 
     /// What the covered reads come to: those whose positions are all marked.
-    pub fn covered(&self, marks: &[bool; 256]) -> Covered
+    pub fn covered(&self, marks: &[bool; MOST_TAGS]) -> Covered
         ensures count { result.count ≡ length (keep (is_covered marks.now) self.now) }
-        ensures within { result.count ≤ 256 }
+        ensures within { result.count ≤ MOST_TAGS }
         ensures reply { result.reply ≡ sum_by reply_of (keep (is_covered marks.now) self.now) }
-        ensures small { result.reply ≤ 2 ^ 48 }
+        ensures small { result.reply ≤ 2 ^ 72 }
+        ensures modest { All (λ r. reply_of r ≤ 2 ^ 40) self.now → result.reply ≤ 2 ^ 48 }
     {
         cover::total(&self.rows[..self.count], &self.members, marks)
     }
 
     /// The positions of the covered reads, from the front of a buffer on; how many they are.
-    pub(crate) fn unite(&self, marks: &[bool; 256], out: &mut [u8; 256]) -> usize
+    pub fn unite(&self, marks: &[bool; MOST_TAGS], out: &mut [u8; MOST_TAGS]) -> usize
         ensures positions { take result out.new ≡ served (keep (is_covered marks.now) self.now) }
-        ensures within { result ≤ 256 }
+        ensures within { result ≤ MOST_TAGS }
     {
         cover::unite(&self.rows[..self.count], &self.members, marks, out)
     }
 
-    /// The extent of the indexes of the tags that covered reads serve.
-    pub fn bounds(&self, marks: &[bool; 256], indexes: &[u32; 256]) -> Option<Extent>
-        ensures extent { result ≡ extent_of (map (λ p. get_or indexes.now p 0) (served (keep (is_covered marks.now) self.now))) }
-        ensures ordered { IfSome result (λ e. e.least ≤ e.greatest) }
-    {
-        let mut positions = [0; 256];
-        let n = self.unite(marks, &mut positions);
-        extent_of(&positions[..n], indexes)
-    }
-
     /// The packets of the reads.
+    // `cost` and `budget` go side by side, as in `packing`.
     pub fn packets(&self, cost: Cost, budget: u16) -> u64
         ensures { result ≡ packets_in cost budget self.now }
     {
@@ -217,11 +220,12 @@ impl Reads {
         &self,
         cost: Cost,
         budget: u16,
-        marks: &[bool; 256],
+        marks: &[bool; MOST_TAGS],
         request: u64,
         reply: u64,
     ) -> u64
-        ensures { result ≡ packets_in cost budget (in_place (is_covered marks.now) (sized request reply) self.now) }
+        ensures { let read = sized request reply in
+            result ≡ packets_in cost budget (in_place (is_covered marks.now) read self.now) }
     {
         pack::packets_with(
             cost,

@@ -138,7 +138,7 @@ error-then-cut : sorted_file (plan_file (motor ∷ motor ∷ [])) (layout (faile
 unfolding computing
 error-then-cut = refl
 
--- ---- 01, table, 11: the smaller count
+-- ---- refusal 11: the smaller count
 counts-differ : sort_verdict (plan_file (plain ∷ motor ∷ [])) three ≡ bad (CountsDiffer 2)
 unfolding computing
 counts-differ = refl

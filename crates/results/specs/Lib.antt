@@ -2,3 +2,4 @@ pub mod Results
 pub mod Statuses
 pub mod Sorting
 pub mod Told
+pub mod Seamless

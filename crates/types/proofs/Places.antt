@@ -1,6 +1,6 @@
 -- The types of a file are what stands at their places, and a search by name goes through both in the same order.
 -- Assumes nothing.
-use Rattle.std.proofs.Common.{ℕ, zero, suc, ◌+◌, ◌<◌, ◌≡◌, refl, sym, ap, ◌∙◌, Bool, true, false, cond, List, [], ◌∷◌, length, map, take, get_or, None, Some, arith}
+use Rattle.std.proofs.Common.{ℕ, zero, suc, ◌+◌, ◌<◌, ◌≡◌, refl, sym, ap, ◌∙◌, Bool, true, false, cond, List, [], ◌∷◌, length, map, take, drop, get_or, ◌≤◌, None, Some, arith}
 use Rattle.std.specs.Prelude.{slice_get}
 use Rattle.std.specs.List.{position_or_len}
 use Rattle.std.proofs.lemmas.Option.{none-some, same_Some}
@@ -8,15 +8,19 @@ use lib.Dec.{ltb}
 use borrow.Author.Tests.{ltb-true, ltb-false, lt-ltb, le-ltb}
 use Rattle.fields.specs.Text.{Text, same}
 use Rattle.fields.specs.Places.{value_at}
-use Rattle.catalog.specs.Catalog.{Node, TypeDef, type_def, catalog_of}
+use Rattle.catalog.specs.Catalog.{Node, TypeDef, type_def, counts, catalog_of}
 use Rattle.catalog.specs.Finding.{is_struct}
-use Rattle.catalog.specs.Alike.{name_at, type_places}
+use Rattle.catalog.specs.Alike.{name_at, types_start, type_places}
 use Rattle.catalog.specs.declared.Kind.{Kind}
 use Rattle.catalog.specs.declared.Kind.TheVariants.{Atomic, Struct, String}
 use Rattle.nesting.specs.Graph.{type_index, member_index}
 use Rattle.nodes.specs.Placed.{place_index}
 use Rattle.fields.specs.Writing.{answered}
 use Rattle.fields.proofs.Patches.{answer-front}
+use Rattle.nodes.proofs.Places.{types-counted as types-limited}
+use Rattle.fields.proofs.Rows.{places-length}
+use Rattle.fields.proofs.LawfulFields.{limited-max}
+use Rattle.fields.specs.Fields.{whole}
 use Rattle.nodes.proofs.Standing.{typed}
 use Rattle.nodes.proofs.Tabling.{types-mapped}
 
@@ -96,7 +100,16 @@ module _ (s : List ℕ) (m : Node) where
       go Struct e = absurd (n e)
       go String e = refl
 
-pub ruleset indexing = (index-placed, member-struct, member-other)
+-- ---- how many types there are
+pub types-few : (s : List ℕ) → length (type_places s) ≤ 128
+unfolding type_places
+types-few s =
+    let l = places-length type_def s (value_at counts s 1).1 (types_start s) in
+    let c = types-limited s in
+    let m = limited-max 128 (whole 2 (take 2 (drop (1 + length (take 2 (drop 1 s))) s))) in
+    omega arith
+
+pub ruleset indexing = (index-placed, member-struct, member-other, types-few)
 
 -- ---- the places, as they were written down
 pub types-front : (s old out : List ℕ) (n : ℕ) → n ≡ length (type_places s) → out ≡ answered (type_places s) old → take n out ≡ type_places s

@@ -1,10 +1,8 @@
--- What a value is made of, by its kind byte, and what a key of a path names, by its key byte.
+-- What a value is made of, by its kind byte.
 -- Assumes nothing: these are definitions.
 use Rattle.std.specs.Prelude.{ℕ, zero, suc}
 use Rattle.values.specs.declared.ValueKind.{ValueKind}
 use Rattle.values.specs.declared.ValueKind.TheVariants.{Leaf, Array, Struct, Text}
-use Rattle.values.specs.declared.dig.KeyKind.{KeyKind}
-use Rattle.values.specs.declared.dig.KeyKind.TheVariants.{Member, Index, Several}
 
 -- the kind of a byte; what is none of 0 to 2 is read as 3
 abbrev pub kind_of : ℕ → ValueKind
@@ -19,9 +17,3 @@ kind_number Leaf = 0
 kind_number Array = 1
 kind_number Struct = 2
 kind_number Text = 3
-
--- what a key names, by its byte
-abbrev pub key_of : ℕ → KeyKind
-key_of zero = Member
-key_of (suc zero) = Index
-key_of (suc (suc k)) = Several

@@ -4,3 +4,4 @@ pub mod Alike
 pub mod Told
 pub mod Dig
 pub mod Kinds
+pub mod Seamless

@@ -1,4 +1,4 @@
-use Rattle.considered.proofs.Considering.{seeing-start, seeing-next}
+use Rattle.considered.proofs.Considering.{seeing-start, seeing-next, here-limited}
 use Rattle.considered.specs.Seen.{row_in, seen_of, text_in}
 use Rattle.considered.specs.Answers.{text_at}
 use Rattle.planner.specs.Rows.{row_of}
@@ -24,3 +24,6 @@ loop-place-preserved c =
     (c.see_tag-tag.ensures.tag ∙ ap (λ (x : List Tag). seen_of f.catalog.now (tag_behind C W (map (text_in f.list.now) x) t)) c.rows.ensures.rows)
     (c.see_tag-tag.ensures.rows ∙ ap (λ (x : List Tag). map row_in c.loop-place.rows ++ map (row_of (length x)) (tag_behind C W (map (text_in f.list.now) x) t).above) c.rows.ensures.rows)
     c.push.ensures
+
+pub see_tag-tag-requires-clause-limited : goal.see_tag-tag-requires-clause-limited
+see_tag-tag-requires-clause-limited c = here-limited c.args.files.now.catalog.now c.args.files.now.list.now c.requires.limited c.args.places.now c.loop-place.place-index c.requires.places c.loop-place-test.true

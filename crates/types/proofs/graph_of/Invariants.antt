@@ -3,4 +3,4 @@ use Rattle.types.proofs.Noting.{Noted}
 use Rattle.types.proofs.graph_of.Given as goal
 
 abbrev pub invariant-loop-k : goal.invariant-loop-k
-invariant-loop-k l = Noted l.s l.graph l.k
+invariant-loop-k l = Noted l.opened l.graph l.k

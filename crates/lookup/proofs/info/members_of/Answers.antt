@@ -1,24 +1,20 @@
 use Prim.Native.Nat.{◌+◌}
-use mathlib.Core.Path.{refl}
 use native.Mathlib.Omega.{arith}
 use Rattle.lookup.proofs.Paths.{part-within, members-end, members-next, members-missing}
 use Rattle.std.proofs.Common.{◌∙◌}
 use Rattle.lookup.proofs.info.members_of.Goals as goal
 
-pub loop-end-init : goal.loop-end-init
-loop-end-init c = refl
-
 pub slice_bounds-member_of-count : goal.slice_bounds-member_of-count
-slice_bounds-member_of-count c = let w = part-within c.args.t.now (c.loop-end.end + 1) _ (omega (arith, c.loop-end-test.true)) c.place_of-end.ensures in omega (arith, w)
+slice_bounds-member_of-count c = let w = part-within c.args.path.now (c.loop-end.end + 1) _ (omega (arith, c.loop-end-test.true)) c.place_of-end.ensures in omega (arith, w)
 
 pub slice_bounds-member_of-start : goal.slice_bounds-member_of-start
-slice_bounds-member_of-start c = let w = part-within c.args.t.now (c.loop-end.end + 1) _ (omega (arith, c.loop-end-test.true)) c.place_of-end.ensures in omega (arith, w)
+slice_bounds-member_of-start c = let w = part-within c.args.path.now (c.loop-end.end + 1) _ (omega (arith, c.loop-end-test.true)) c.place_of-end.ensures in omega (arith, w)
 
 pub slice_bounds-member_of-end : goal.slice_bounds-member_of-end
-slice_bounds-member_of-end c = let w = part-within c.args.t.now (c.loop-end.end + 1) _ (omega (arith, c.loop-end-test.true)) c.place_of-end.ensures in omega (arith, w)
+slice_bounds-member_of-end c = let w = part-within c.args.path.now (c.loop-end.end + 1) _ (omega (arith, c.loop-end-test.true)) c.place_of-end.ensures in omega (arith, w)
 
 pub loop-end-smaller : goal.loop-end-smaller
-loop-end-smaller c = let w = part-within c.args.t.now (c.loop-end.end + 1) _ (omega (arith, c.loop-end-test.true)) c.place_of-end.ensures in omega (arith, w, c.loop-end-test.true)
+loop-end-smaller c = let w = part-within c.args.path.now (c.loop-end.end + 1) _ (omega (arith, c.loop-end-test.true)) c.place_of-end.ensures in omega (arith, w, c.loop-end-test.true)
 
 pub returns : goal.returns
 returns c = members-end _ _ _ _ _ _ c.loop-end-test.false c.loop-end.invariant

@@ -1,7 +1,7 @@
 -- `last_of` meets its contract: the last place so far and what is left give the last place of all.
 use mathlib.Core.Path.{◌≡◌}
 use Prim.Native.Nat.{◌<◌}
-use lib.ListN.{length, drop}
+use lib.ListN.{drop}
 use Rattle.std.specs.Prelude.{IfSome}
 use Rattle.names.specs.Range.{last_from}
 use Rattle.std.specs.Prelude.{None}

@@ -5,34 +5,33 @@ use Rattle.reads.specs.Rows.{held_in}
 use Rattle.reads.proofs.Lent.{row_told}
 use Rattle.reads.proofs.Steps.{kept_yes, kept_not, kept_end, sum_yes}
 use Rattle.reads.proofs.cover.total.Goals as goal
-
-pub loop-row-preserved-then-not-is_covered : goal.loop-row-preserved-then-not-is_covered
-loop-row-preserved-then-not-is_covered c =
-    let n = length-map c.args.rows.now (held_in c.args.members.now) in
-    let h : c.loop-row.row-index < length (map (held_in c.args.members.now) c.args.rows.now) = omega arith in
-    let q = row_told c.args.members.now c.args.rows.now _ _ c.loop-row-test.true c.row-item.is in
-    let k = kept_not (is_covered c.args.marks.now) _ _ h (ap (is_covered c.args.marks.now) (sym q) ∙ sym c.is_covered.ensures ∙ c.if-not-is_covered.true) in
-    record {
-      few = omega arith;
-      small = omega arith;
-      counted = omega (arith, c.loop-row.invariant.counted, ap length k);
-      replied = omega (arith, c.loop-row.invariant.replied, ap (sum_by reply_of) k);
-    }
+use Rattle.reads.proofs.cover.total.Goals.{then-is_covered, else-is_covered}
 
 pub loop-row-preserved : goal.loop-row-preserved
 loop-row-preserved c =
     let n = length-map c.args.rows.now (held_in c.args.members.now) in
     let h : c.loop-row.row-index < length (map (held_in c.args.members.now) c.args.rows.now) = omega arith in
     let q = row_told c.args.members.now c.args.rows.now _ _ c.loop-row-test.true c.row-item.is in
-    let e = ap (is_covered c.args.marks.now) (sym q) ∙ sym c.is_covered.ensures ∙ c.if-not-is_covered.false in
-    let k = kept_yes (is_covered c.args.marks.now) _ _ h e in
-    let s = sum_yes (is_covered c.args.marks.now) _ _ reply_of h e in
-    record {
-      few = omega arith;
-      small = omega (arith, c.row-item.result.small);
-      counted = omega (arith, c.loop-row.invariant.counted, ap length k);
-      replied = omega (arith, c.loop-row.invariant.replied, s, ap reply_of q);
-    }
+    elim c.if-is_covered.branch [
+      | then-is_covered w ↦
+          let e = ap (is_covered c.args.marks.now) (sym q) ∙ sym c.is_covered.ensures ∙ w.if-is_covered.true in
+          let k = kept_yes (is_covered c.args.marks.now) _ _ h e in
+          let s = sum_yes (is_covered c.args.marks.now) _ _ reply_of h e in
+          rw (w.count-is, w.reply-is) (record {
+            few = omega arith;
+            small = omega (arith, c.row-item.result.fits, w.from-reply.ensures);
+            counted = omega (arith, c.loop-row.invariant.counted, ap length k);
+            replied = omega (arith, c.loop-row.invariant.replied, s, ap reply_of q, w.from-reply.ensures);
+          })
+      | else-is_covered w ↦
+          let k = kept_not (is_covered c.args.marks.now) _ _ h (ap (is_covered c.args.marks.now) (sym q) ∙ sym c.is_covered.ensures ∙ w.if-is_covered.false) in
+          rw (w.count-is, w.reply-is) (record {
+            few = omega arith;
+            small = omega arith;
+            counted = omega (arith, c.loop-row.invariant.counted, ap length k);
+            replied = omega (arith, c.loop-row.invariant.replied, ap (sum_by reply_of) k);
+          })
+    ]
 
 pub returns-clause-count : goal.returns-clause-count
 returns-clause-count c =

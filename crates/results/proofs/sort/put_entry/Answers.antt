@@ -1,10 +1,6 @@
 -- The bytes of an entry are put one behind the other: the laws in Entries.
-use borrow.Author.Rules.{rules}
-use Rattle.results.proofs.Entries.{put-cut-room, put-cut, put-retry, put-received}
+use Rattle.results.proofs.Entries.{put-cut, put-retry, put-received}
 use Rattle.results.proofs.sort.put_entry.Goals as goal
-
-pub overflow_add-to : goal.overflow_add-to
-overflow_add-to c = let r = put-cut-room c.args.out.now c.args.to c.args.entry c.requires _ c.in-Cut.is in search rules
 
 pub returns-in-Cut : goal.returns-in-Cut
 returns-in-Cut c = put-cut _ _ _ c.requires _ _ _ c.in-Cut.is c.put_number.ensures c.put_number-in-Cut.ensures

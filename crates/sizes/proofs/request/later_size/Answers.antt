@@ -6,7 +6,7 @@ use Rattle.sizes.proofs.request.later_size.Goals as goal
 
 pub loop-piece-init : goal.loop-piece-init
 loop-piece-init c =
-    walk_starts (λ at. Costing c.args.name.now c.args.base at 0) _ _ _ _ c.into_iter-piece-iterator.ensures.into_iter_gives c.behind-piece-items.ensures.name c.behind-piece-items.ensures.at (costing-start _ _ c.requires)
+    walk_starts (λ at. Costing c.args.name.now c.args.base at 0) _ _ _ _ c.into_iter-piece-iterator.ensures.into_iter_gives c.behind-piece-items.ensures.name c.behind-piece-items.ensures.at (costing-start _ _ (c.requires.short, c.requires.within))
 
 pub returns-in_default : goal.returns-in_default
 returns-in_default c =

@@ -2,7 +2,7 @@ use Rattle.std.proofs.Common.{sym, ap, ◌∙◌, arith, Ok, Some}
 use Rattle.std.proofs.lemmas.Result.{err_from_is_err_and}
 use Rattle.values.specs.Dig.{dig_verdict, cut_of}
 use Rattle.values.specs.Told.{bytes_alone}
-use Rattle.values.proofs.Handed.{handed, bytes-alone, dug-inside, part-lent, none-lent, refused-lent}
+use Rattle.values.proofs.Handed.{handed, bytes-alone, part-lent, none-lent, refused-lent}
 use Rattle.values.proofs.cut.dig.Goals as goal
 
 pub returns-in_err-part-clause-part : goal.returns-in_err-part-clause-part
@@ -12,9 +12,6 @@ returns-in_err-part-clause-part c =
 
 pub returns-in_err-part-clause-cut : goal.returns-in_err-part-clause-cut
 returns-in_err-part-clause-cut c = returns-in_err-part-clause-part c ∙ handed c.args.value.now c.args.path.now (λ k. omega (arith, c.type_inv.value k))
-
-pub of-requires : goal.of-requires
-of-requires c = dug-inside c.args.value.now c.args.path.now (λ k. omega (arith, c.type_inv.value k)) _ (ap Ok (sym c.in-Some.is) ∙ sym c.in_ok-part.was ∙ c.dig_place.ensures)
 
 pub returns-in-Some-clause-part : goal.returns-in-Some-clause-part
 returns-in-Some-clause-part c =

@@ -1,12 +1,7 @@
 -- The bytes of the reads left are those still to be put.
-use lib.ListN.{length}
-use Rattle.packing.specs.Tables.{sizes_of}
 use Rattle.packing.specs.Told.{lone_bytes}
-use Rattle.packing.proofs.Placing.{Behind, Lonely}
+use Rattle.packing.proofs.Placing.{Lonely}
 use Rattle.packing.proofs.chunk.Batch.put_lone.Given as goal
 
 abbrev pub invariant-loop-read : goal.invariant-loop-read
-invariant-loop-read l = record {
-  behind : Behind (length l.self.requests.now) (sizes_of l.self.requests.now l.self.replies.now) l.read-iterator;
-  lonely : Lonely l.self.cost l.self.budget (lone_bytes l.self.cost l.self.budget 0 (sizes_of l.self.requests.now l.self.replies.now)) l.initial.out l.at l.out l.next l.read-iterator;
-}
+invariant-loop-read l = Lonely l.packer.cost l.packer.budget (lone_bytes l.self.cost l.self.budget 0 l.self.sizes.now) l.initial.out l.at l.out l.next l.self.sizes.now l.read

@@ -1,5 +1,4 @@
 use Rattle.std.proofs.Common.{◌≡◌, ◌++◌, drop, length, sum_by}
-use Rattle.packing.specs.Tables.{sizes_of}
 use Rattle.reads.specs.Held.{count_of}
 use Rattle.reads.specs.Told.{plain_from}
 use Rattle.reads.proofs.table.Reads.plain.Given as goal
@@ -9,5 +8,5 @@ abbrev pub invariant-loop-i : goal.invariant-loop-i
 invariant-loop-i l = record {
   count : length l.reads ≡ l.i;
   served : sum_by count_of l.reads ≡ l.i;
-  left : plain_from 0 (sizes_of l.requests l.replies) ≡ l.reads ++ plain_from l.i (sizes_of (drop l.i l.requests) (drop l.i l.replies));
+  left : plain_from 0 l.first ≡ l.reads ++ plain_from l.i (drop l.i l.first);
 }
