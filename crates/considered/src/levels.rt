@@ -13,7 +13,7 @@ use crate::tags::MOST_LEVELS;
 use fields::table::Table;
 use lists::layout::LONGEST_NAME;
 use lookup::member::member_of;
-use names::walk::{Stop, first_token, next_token};
+use names::walk::{Stop, Tokens, first_token};
 
 /// Where a front ends in its name, and the place of the node that it leads to.
 #[derive(Clone, Copy, Debug, PartialEq, Eq)]
@@ -47,22 +47,19 @@ fn put_levels(
     ensures stopped { is_err result ≡ true → tokens_of name.now ≡ [] }
 {
     let first = first_token(name)?;
-    let mut at = first.end;
-    let mut path = files.catalog.find_tag(&name[..at]);
+    let mut path = files.catalog.find_tag(&name[..first.end]);
     levels.push(Level {
-        end: at,
+        end: first.end,
         node: path,
     });
-    // `while let`: each token starts where the one before ends, and reading it may stop with an error.
-    while let Some(token) = next_token(name, at)? {
-        let end = token.end;
-        path = token_step(files, path, &name[at + 1..end], token.indexes);
-        let tag = files.catalog.find_tag(&name[..end]);
+    for piece in Tokens::behind(name, first.end) {
+        let (text, token) = piece?;
+        path = token_step(files, path, &text[1..], token.indexes);
+        let tag = files.catalog.find_tag(&name[..token.end]);
         levels.push(Level {
-            end,
+            end: token.end,
             node: tag.or(path),
         });
-        at = end;
     }
     Ok(())
 }

@@ -1,10 +1,6 @@
-use Prim.Native.Nat.{◌-◌}
-use lib.ListN.{length}
+use mathlib.Core.Path.{◌≡◌}
 use Rattle.considered.proofs.Resolving.{Resolving}
 use Rattle.considered.proofs.levels.put_levels.Given as goal
 
-abbrev pub invariant-loop-token : goal.invariant-loop-token
-invariant-loop-token l = Resolving l.files.catalog.now l.name l.levels l.at l.path
-
-abbrev pub decreases-loop-token : goal.decreases-loop-token
-decreases-loop-token l = length l.name - l.at
+abbrev pub invariant-loop-piece : goal.invariant-loop-piece
+invariant-loop-piece l = (l.piece-iterator.name.now ≡ l.name) × Resolving l.files.catalog.now l.name l.levels l.piece-iterator.at l.path

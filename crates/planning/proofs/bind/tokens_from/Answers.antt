@@ -1,8 +1,7 @@
 use mathlib.Core.Path.{sym, subst, ◌∙◌}
 use Prim.Native.Nat.{◌+◌}
-use native.Mathlib.Omega.{arith}
 use Rattle.names.proofs.Walking.{walk_starts, walk_ends, walk_stops, walk_gives}
-use Rattle.planning.proofs.Reckoned.{Reckoning, reckoning-start, reckoning-fits, reckoning-next, reckoning-end, reckoning-stops}
+use Rattle.planning.proofs.Reckoned.{Reckoning, reckoning-start, reckoning-next, reckoning-end, reckoning-stops}
 use Rattle.planning.proofs.bind.tokens_from.Goals as goal
 
 pub loop-piece-init : goal.loop-piece-init
@@ -10,12 +9,6 @@ loop-piece-init c = walk_starts (λ at. Reckoning c.args.name.now at 1) _ _ _ _ 
 
 pub returns-in_default : goal.returns-in_default
 returns-in_default c = reckoning-stops _ _ _ c.loop-piece.invariant.1 _ (walk_stops _ c.loop-piece.piece-iterator c.next.new.self _ _ c.loop-piece.invariant.0 c.in-Some.ensures.steps c.in_default.is)
-
-pub overflow_add-n : goal.overflow_add-n
-overflow_add-n c =
-    let g = walk_gives _ c.loop-piece.piece-iterator c.next.new.self _ _ _ c.loop-piece.invariant.0 c.in-Some.ensures.steps c.in-Ok.is in
-    let f = reckoning-fits _ _ _ c.loop-piece.invariant.1 _ _ g.0 in
-    omega (arith, f)
 
 pub returns : goal.returns
 returns c = reckoning-end _ _ _ c.loop-piece.invariant.1 (walk_ends _ c.loop-piece.piece-iterator c.next.new.self c.loop-piece.invariant.0 c.in-None.ensures.steps)

@@ -2,7 +2,7 @@ use mathlib.Core.Path.{sym, subst, ◌∙◌}
 use Prim.Native.Nat.{◌+◌}
 use native.Mathlib.Omega.{arith}
 use Rattle.names.proofs.Walking.{walk_starts, walk_ends, walk_stops, walk_gives}
-use Rattle.planning.proofs.Walks.{Pathing, pathing-start, pathing-few, pathing-room, pathing-next, pathing-none, pathing-end, pathing-stops}
+use Rattle.planning.proofs.Walks.{Pathing, pathing-start, pathing-room, pathing-next, pathing-none, pathing-end, pathing-stops}
 use Rattle.planning.proofs.write.put_path.Goals as goal
 
 pub loop-step-init : goal.loop-step-init
@@ -13,9 +13,6 @@ pub put_step-to-requires : goal.put_step-to-requires
 put_step-to-requires c =
     let g = walk_gives _ c.loop-step.step-iterator c.next.new.self _ _ _ c.loop-step.invariant.0 c.in-Some.ensures.steps c.in-Ok.is in
     rw g.1 (pathing-room _ _ _ _ _ _ _ c.loop-step.invariant.1 _ _ g.0)
-
-pub overflow_add-count : goal.overflow_add-count
-overflow_add-count c = let w = pathing-few _ _ _ _ _ _ _ c.loop-step.invariant.1 in omega (arith, w)
 
 pub loop-step-preserved : goal.loop-step-preserved
 loop-step-preserved c =

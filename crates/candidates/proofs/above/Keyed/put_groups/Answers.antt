@@ -1,13 +1,10 @@
 use native.Mathlib.Omega.{arith}
-use mathlib.Core.Path.{refl, sym, ap₂, ◌∙◌}
+use mathlib.Core.Path.{sym, ap₂, ◌∙◌}
 use Rattle.candidates.specs.Groups.{bunch_with}
-use Rattle.candidates.proofs.Putting.{putting-start, putting-as, putting-end, one-few, one-serves, one-put}
+use Rattle.candidates.proofs.Putting.{putting-as, putting-end, one-few, one-serves, one-put}
 use Rattle.candidates.proofs.Under.{groups-more, groups-skip, groups_none}
 use Rattle.candidates.proofs.above.Keyed.put_groups.Goals as goal
 use Rattle.candidates.proofs.above.Keyed.put_groups.Goals.{then-is_group, else-is_group}
-
-pub loop-j-init : goal.loop-j-init
-loop-j-init c = putting-start _ _ _ refl c.requires
 
 pub push-requires : goal.push-requires
 push-requires c =

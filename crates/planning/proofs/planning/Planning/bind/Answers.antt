@@ -14,6 +14,3 @@ loop-level-preserved c = (rising-next _ _ _ _ _ _ c.loop-level.invariant.0 _ _ c
 
 pub returns-clause-bound : goal.returns-clause-bound
 returns-clause-bound c = rising-end _ _ _ _ _ _ c.loop-level.invariant.0 _ c.budget.ensures c.packet_room-room.ensures (omega (arith, c.loop-level-test.false))
-
-pub returns-clause-named : goal.returns-clause-named
-returns-clause-named c = c.loop-level.invariant.1

@@ -14,6 +14,3 @@ loop-j-preserved c = elim c.if-eq.branch [
 
 pub returns-clause-bound : goal.returns-clause-bound
 returns-clause-bound c = turning-end _ _ _ _ _ _ _ c.loop-j.invariant.0 c.loop-j-test.false
-
-pub returns-clause-named : goal.returns-clause-named
-returns-clause-named c = c.loop-j.invariant.1

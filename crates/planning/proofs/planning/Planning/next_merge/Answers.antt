@@ -6,9 +6,6 @@ use Rattle.planning.proofs.planning.Planning.next_merge.Goals as goal
 pub loop-j-init : goal.loop-j-init
 loop-j-init c = (looking-start _ _ _ _ c.told-alive, tt)
 
-pub try_group-best-requires-clause-best : goal.try_group-best-requires-clause-best
-try_group-best-requires-clause-best c = c.loop-j.invariant.1
-
 pub loop-j-preserved : goal.loop-j-preserved
 loop-j-preserved c = (looking-next _ _ _ _ _ _ _ c.loop-j.invariant.0 _ _ (omega (arith, c.len-j-end.ensures.len, c.len-j-end.ensures.within)) (omega (arith, c.len-j-end.ensures.len, c.loop-j-test.true)) c.try_group-best.array_long c.try_group-best.ensures.chosen c.try_group-best.ensures.flags, c.try_group-best.ensures.modest)
 
@@ -17,6 +14,3 @@ returns-clause-chosen c = looking-end _ _ _ _ _ _ _ c.loop-j.invariant.0 (omega 
 
 pub returns-clause-flags : goal.returns-clause-flags
 returns-clause-flags c = looking-flags _ _ _ _ _ _ _ c.loop-j.invariant.0 (omega (arith, c.len-j-end.ensures.len, c.loop-j-test.false))
-
-pub returns-clause-modest : goal.returns-clause-modest
-returns-clause-modest c = c.loop-j.invariant.1

@@ -4,17 +4,11 @@ use mathlib.Core.Path.{◌≡◌, subst}
 use native.Mathlib.Omega.{arith}
 use lib.ListN.{length}
 use Rattle.planning.specs.Merges.{NextTold}
-use Rattle.planning.proofs.Settling.{settling-start, settling-end, settling-none, settling-next}
+use Rattle.planning.proofs.Settling.{settling-end, settling-none, settling-next}
 use Rattle.planning.proofs.planning.Planning.settle.Goals as goal
-
-pub loop-init : goal.loop-init
-loop-init c = (settling-start _ _ _ _ _ (omega arith), λ h. h)
 
 pub returns-in_default-clause-settled : goal.returns-in_default-clause-settled
 returns-in_default-clause-settled c = settling-none _ _ _ _ _ _ _ c.loop.invariant.0 (omega (arith, c.len-rounds.ensures.len, c.loop-test.true)) (subst (NextTold c.args.self.now c.loop.alive c.args.limit c.loop.reads) c.in_default.is c.next_merge.ensures.chosen)
-
-pub returns-in_default-clause-named : goal.returns-in_default-clause-named
-returns-in_default-clause-named c = c.loop.invariant.1
 
 pub loop-preserved : goal.loop-preserved
 loop-preserved c =
@@ -25,6 +19,3 @@ loop-preserved c =
 
 pub returns-clause-settled : goal.returns-clause-settled
 returns-clause-settled c = settling-end _ _ _ _ _ _ _ c.loop.invariant.0 (omega (arith, c.len-rounds.ensures.len, c.loop-test.false))
-
-pub returns-clause-named : goal.returns-clause-named
-returns-clause-named c = c.loop.invariant.1

@@ -1,13 +1,9 @@
-use native.Mathlib.Omega.{arith}
 use Rattle.planning.proofs.Rowing.{rowing_start, rowing-here, rowing-next, rowing-end}
 use Rattle.planning.specs.Put.{element_in}
 use Rattle.planning.proofs.planning.Planning.write_run_members.Goals as goal
 
 pub loop-position-init : goal.loop-position-init
 loop-position-init c = rowing_start _ _ _ _ _ c.requires.fit c.requires.room
-
-pub overflow_sub-index : goal.overflow_sub-index
-overflow_sub-index c = let w = rowing-here _ _ _ _ _ _ _ _ c.loop-position.invariant c.loop-position-test.true in omega (arith, w.0.1, c.index_at.ensures)
 
 pub write_element-at-requires : goal.write_element-at-requires
 unfolding element_in
