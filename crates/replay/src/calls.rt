@@ -24,14 +24,14 @@ use values::cut::dig_place;
 const MOST_NUMBERS: usize = 260;
 
 /// The verdict of a check.
-pub fn verdict(checked: Checked, out: &mut [u8]) -> Written {
+pub(crate) fn verdict(checked: Checked, out: &mut [u8]) -> Written {
     let mut output = Output::new(out);
     output.verdict(checked);
     output.written()
 }
 
 /// What a name is in a catalog: 0 for nothing; or 1 and the node, from behind its name on.
-pub fn node(case: Case, out: &mut [u8]) -> Written {
+pub(crate) fn node(case: Case, out: &mut [u8]) -> Written {
     let catalog = case.first;
     check_catalog(catalog)?;
     let mut output = Output::new(out);
@@ -45,7 +45,7 @@ pub fn node(case: Case, out: &mut [u8]) -> Written {
 }
 
 /// The sizes of a read: its request and its reply, then an element of a run, then a struct that is read whole.
-pub fn read_sizes(case: Case, out: &mut [u8]) -> Written {
+pub(crate) fn read_sizes(case: Case, out: &mut [u8]) -> Written {
     let catalog = case.first;
     check_catalog(catalog)?;
     let found = info(catalog, case.second);
@@ -74,7 +74,7 @@ fn read_budget(s: &[u8]) -> u16 {
 }
 
 /// The groups of reads, by tables of their sizes.
-pub fn groups_of_tables(case: Case, out: &mut [u8]) -> Written {
+pub(crate) fn groups_of_tables(case: Case, out: &mut [u8]) -> Written {
     chunks(
         read_table(case.first, &mut [0; MOST_NUMBERS]),
         read_table(case.second, &mut [0; MOST_NUMBERS]),
@@ -84,7 +84,7 @@ pub fn groups_of_tables(case: Case, out: &mut [u8]) -> Written {
 }
 
 /// The packets of reads, by tables of their sizes, in 8 bytes.
-pub fn packets_of_tables(case: Case, out: &mut [u8]) -> Written {
+pub(crate) fn packets_of_tables(case: Case, out: &mut [u8]) -> Written {
     let count = packets(
         read_table(case.first, &mut [0; MOST_NUMBERS]),
         read_table(case.second, &mut [0; MOST_NUMBERS]),
@@ -96,12 +96,12 @@ pub fn packets_of_tables(case: Case, out: &mut [u8]) -> Written {
 }
 
 /// The groups of a plan's reads, by the catalog.
-pub fn groups_of_plan(case: Case, out: &mut [u8]) -> Written {
+pub(crate) fn groups_of_plan(case: Case, out: &mut [u8]) -> Written {
     plan_chunks(case.first, case.second, read_budget(case.third), out)
 }
 
 /// The place that a path leads to in a value file, in 8 bytes: 0 where it leads nowhere.
-pub fn place_of_path(case: Case, out: &mut [u8]) -> Written {
+pub(crate) fn place_of_path(case: Case, out: &mut [u8]) -> Written {
     let found = dig_place(case.first, case.second)?;
     let mut output = Output::new(out);
     output.count(Width::Eight, found.map_or(0, |part| part.start));
@@ -109,7 +109,7 @@ pub fn place_of_path(case: Case, out: &mut [u8]) -> Written {
 }
 
 /// The list anew, if it is accepted.
-pub fn list(case: Case, out: &mut [u8]) -> Written {
+pub(crate) fn list(case: Case, out: &mut [u8]) -> Written {
     let s = case.first;
     check_list(s)?;
     let mut output = Output::new(out);
@@ -142,7 +142,7 @@ fn copy_read(s: &[u8], at: usize, output: &mut Output) {
 }
 
 /// The plan anew, if it is accepted.
-pub fn plan(case: Case, out: &mut [u8]) -> Written {
+pub(crate) fn plan(case: Case, out: &mut [u8]) -> Written {
     let s = case.first;
     check_plan(s)?;
     let mut output = Output::new(out);
