@@ -1,8 +1,8 @@
 #!/usr/bin/env python3
 """Prints, file by file, the laws in crates/*/proofs that nothing reaches, and how many they are.
 
-A law is reached if an answer, an invariant, a file of specs/, an example, a ruleset that the sources use or a page names it, or if a
-law that is reached does. The last line has their number and the number of their lines.
+A law is reached if an answer, an invariant, a file of specs/, an example, a ruleset that the sources use or a page names it, if a
+comment above it calls it a theorem, or if a law that is reached names it. The last line has their number and the number of their lines.
 """
 
 import collections
@@ -14,6 +14,7 @@ import signal
 WORD = re.compile(r"[^\s(){}\[\].,;:λ=→≡∙×]+")
 HEAD = re.compile(r"^(\s*)(?:pub )?(?:data |record |ruleset |abbrev )?([^\s(){}:=]+) (?::|=|\()")
 USE = re.compile(r"use ([\w.]+)\.\{([^}]*)\}")
+THEOREM = re.compile(r"-- THEOREM.*\n(?: *--.*\n)* *(?:pub )?(\S+) :")
 RULES = re.compile(r"((?:\w+::)+proofs::(?:\w+::)*)([\w'-]+)")
 ROOTS = {"Answers.antt", "Invariants.antt", "Bench.antt", "Stored.antt"}
 
@@ -45,15 +46,17 @@ def is_law(name, text):
 def unreached():
     """The laws that nothing reaches and their lines, by file."""
     paths = [p for p in glob.glob("crates/*/[ps]*s/**/*.antt", recursive=True)]
-    texts = {p: re.sub(r"(?m)--.*$", "", read(p)) for p in paths}
+    sources = {p: read(p) for p in paths}
+    texts = {p: re.sub(r"(?m)--.*$", "", text) for p, text in sources.items()}
     files = {"Rattle." + p[7:-5].replace("/", "."): p for p in paths}
-    declared = {p: declarations(text) for p, text in texts.items()}
+    declared = {p: declarations(USE.sub("", text)) for p, text in texts.items()}
     taken = {p: {x.split(" as ")[-1].strip(): (files[m.group(1)], x.split(" as ")[0].strip())
                  for m in USE.finditer(text) if m.group(1) in files for x in m.group(2).split(",")} for p, text in texts.items()}
     pages = "".join(read(p) for p in ["README.md"] + glob.glob("docs/*.md") if not p.endswith("DESIGN-PASS.md"))
     named, live = set(re.findall(r"`([^`\s]+)`", pages)), set()
     left = [(p, x) for p in paths for x in declared[p] if x in named or x == "" or "/specs/" in p
             or os.path.basename(p) in ROOTS or "Examples" in p or "computing :" in texts[p]]
+    left += [(p, x) for p, text in sources.items() for x in THEOREM.findall(text)]
     for path in glob.glob("crates/*/src/**/*.rt", recursive=True):
         for m in RULES.finditer(read(path)):
             first, *more = m.group(1)[:-2].split("::")
