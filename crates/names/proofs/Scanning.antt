@@ -1,11 +1,13 @@
 -- Where a scan ends: as many places on as bytes pass in a row, which is what a chain of iterators counts.
 -- Assumes nothing.
-use mathlib.Core.Path.{◌≡◌, refl}
+use mathlib.Core.Path.{◌≡◌, refl, ◌∙◌}
 use mathlib.Core.Bool.{Bool, true, false, cond}
 use mathlib.Core.List.{[], ◌∷◌}
 use Prim.Native.Nat.{ℕ, suc, ◌+◌, ◌-◌, ◌≤◌, ◌<◌}
 use native.Mathlib.Omega.{arith}
-use lib.ListN.{length, drop, get_or, length-drop}
+use lib.ListN.{length, take, drop, get_or, length-drop}
+use Rattle.std.proofs.Common.{min}
+use Rattle.std.proofs.lemmas.List.{drop_min, take_all}
 use Rattle.std.specs.List.{prefix_len}
 use Rattle.fields.specs.Text.{Text}
 use Rattle.fields.specs.Places.{scan}
@@ -34,6 +36,12 @@ pub prefix_from : (f : ℕ → Bool) (s : Text) (i : ℕ) → prefix_len f (drop
 prefix_from f s i = let h = prefix_within f (drop i s) in let l = length-drop i s in omega arith
 
 pub ruleset scan_laws = (scan_prefix, prefix_from)
+
+-- what is left from a place on, cut at the end first
+pub rest_cut : (s : Text) (i : ℕ) → take (length s - min i (length s)) (drop (min i (length s)) s) ≡ drop i s
+rest_cut s i = let l = length-drop (min i (length s)) s in take_all (length s - min i (length s)) (drop (min i (length s)) s) (omega arith) ∙ drop_min i s
+
+pub ruleset rest_laws = (rest_cut)
 
 -- a name goes on over the bytes of a name, from a letter on
 pub length_none : (t : Text) → length t < 1 → name_length t ≡ 0
