@@ -5,7 +5,7 @@ ghost use Rattle.nodes.specs.Placed.{tag_place};
 ghost use Rattle.catalog.specs.Alike.{tag_places, type_places};
 
 use crate::find::find_node_in;
-use crate::table::{tag_places, type_places};
+use crate::table::{Tables, tag_places, type_places};
 use catalog::layout::{MOST_TAGS, MOST_TYPES};
 use fields::table::Table;
 use std::marker::Model;
@@ -62,6 +62,19 @@ impl<'a> Opened<'a> {
         ensures { result.now ≡ type_places self.now }
     {
         self.types.rows()
+    }
+
+    /// The file with the tables of all its tags and types.
+    pub fn tables(&self) -> Tables<'_>
+        ensures file { result.file.now ≡ self.now }
+        ensures tags { result.tags.now ≡ tag_places self.now }
+        ensures types { result.types.now ≡ type_places self.now }
+    {
+        Tables {
+            file: self.file,
+            tags: self.tags(),
+            types: self.types(),
+        }
     }
 
     /// The place of the tag of a name.
