@@ -5,8 +5,9 @@ ghost use Rattle.nodes.specs.Placed.{tag_place};
 ghost use Rattle.catalog.specs.Alike.{tag_places, type_places};
 
 use crate::find::find_node_in;
-use crate::table::{Tables, tag_places, type_places};
-use catalog::layout::{MOST_TAGS, MOST_TYPES};
+use crate::place::{tag_count, tags_start, type_count, types_start};
+use crate::table::{Tables, fill};
+use catalog::layout::{MOST_TAGS, MOST_TYPES, NodeField, TypeField};
 use fields::table::Table;
 use std::marker::Model;
 
@@ -33,14 +34,19 @@ impl<'a> Model for Opened<'a> {
 
 impl<'a> Opened<'a> {
     /// The catalog file, with its places written down.
+    // Both tables are filled here: handed out by `tag_places` and `type_places`, their 9 KB would be copied once more and take that much
+    // more stack.
+    #[tactic(auto, using(crate::proofs::Tabling::opening))]
     pub fn open(file: &'a [u8]) -> Opened<'a>
         ensures { result ≡ file.now }
     {
-        Opened {
-            file,
-            tags: tag_places(file),
-            types: type_places(file),
-        }
+        let mut tags = Table::new(0);
+        let count = tag_count(file);
+        fill(&NodeField, file, tags_start(file), count, &mut tags);
+        let mut types = Table::new(0);
+        let count = type_count(file);
+        fill(&TypeField, file, types_start(file), count, &mut types);
+        Opened { file, tags, types }
     }
 
     /// The file itself.
