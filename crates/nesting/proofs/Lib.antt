@@ -8,5 +8,7 @@ pub mod Setting
 pub mod Rounds
 pub mod Walking
 pub mod Markings
+pub mod Marked
+pub mod Laying
 pub mod Answers
 pub mod Examples

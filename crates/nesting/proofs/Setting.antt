@@ -1,10 +1,10 @@
 -- The table as it is made, and with one entry more: that entry is set, and every other stays.
 -- Assumes nothing.
 use Rattle.std.proofs.Common.{ℕ, ◌<◌, ◌≤◌, ◌≡◌, refl, arith, Bool, true, false, cond, List, length}
-use lib.ListN.{set}
+use lib.ListN.{set, get_or, replicate, get_or-replicate, get_or-eq_default, length-replicate}
 use lib.Seq.{get_or-set_same, get_or-set_other}
-use lib.Dec.{eqb}
-use borrow.Author.Tests.{eqb-true, eqb-false}
+use lib.Dec.{eqb, ltb}
+use borrow.Author.Tests.{eqb-true, eqb-false, ltb-true, ltb-false}
 use Rattle.std.specs.Prelude.{None, Option, Some, IsSome}
 use Rattle.nesting.specs.declared.graph.Graph.{Graph}
 use Rattle.nesting.specs.Graph.{is_set, Unlinked, Made}
@@ -17,6 +17,16 @@ set_one t k j h = go (eqb j k) refl
     go false e = get_or-set_other t k j true false (eqb-false j k e)
 
 -- ---- the table as it is made
+
+-- what holds of each entry of a table that is all the same, and past its end, holds of any
+pub blank : {A : Type 0} (n i : ℕ) (x d : A) (P : A → Type 0) → P x → P d → P (get_or (replicate n x) i d)
+blank {A = A} n i x d P a b = go (ltb i n) refl
+  where
+    go : (t : Bool) → ltb i n ≡ t → P (get_or (replicate n x) i d)
+    go true e = rw (get_or-replicate {A = A} n i x d (ltb-true i n e)) a
+    go false e =
+        let q : length (replicate {A = A} n x) ≤ i = rw (length-replicate {A = A} n x) (ltb-false i n e) in
+        rw (get_or-eq_default (replicate {A = A} n x) d {n = i} q) b
 
 pub making-none : (n : ℕ) (r : Option Graph) → r ≡ None → 128 < n → Made n r
 making-none n r e h = rw e h

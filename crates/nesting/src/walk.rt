@@ -1,7 +1,7 @@
 // The types of a catalog as numbers, with a table of links: which type is nested too deep, and which types read whole.
-ghost use Rattle.std.specs.Prelude.{◌≡◌, ◌≤◌, ◌<◌, Bool, max};
+ghost use Rattle.std.specs.Prelude.{◌≡◌, ◌≤◌, ◌<◌, Bool, max, IfSome};
 ghost use Rattle.std.specs.List.{position};
-ghost use Rattle.nesting.specs.Graph.{listed, first_over, Made, OneMore, OneLinkMore, WholeTypes};
+ghost use Rattle.nesting.specs.Graph.{listed, first_over, Made, OneMore, OneLinkMore, WholeTypes, UnmarkedFrom, Marking};
 ghost use Rattle.nesting.specs.Marks.{reaches, Rounded, Ready, Walked};
 
 use crate::graph::Graph;
@@ -137,10 +137,11 @@ impl Graph {
         true
     }
 
-    /// Which types read whole, type by type; nothing where one is nested over 16.
+    /// Which types read whole, type by type; nothing where one is nested over 16. Past the last type no mark is set.
     #[tactic(auto, using(crate::proofs::Markings::making))]
     pub fn whole_types(&self) -> Option<[bool; MOST_TYPES]>
-        ensures { WholeTypes self.now result }
+        ensures whole { WholeTypes self.now result }
+        ensures past { IfSome result (UnmarkedFrom self.now.count) }
     {
         if self.first_over().is_some() {
             return None;
@@ -151,5 +152,24 @@ impl Graph {
             whole[k] = self.whole_type(&mut memo, k, DEEPEST);
         }
         Some(whole)
+    }
+
+    /// Marks, type by type, which types read whole, and says whether it did. It writes nothing where there are fewer marks than
+    /// types, or where a type is nested over 16; past the last type a mark stays.
+    // Two tests, and nothing is written before both.
+    #[tactic(auto, using(crate::proofs::Marked::marking))]
+    pub fn mark_whole(&self, marks: &mut [bool]) -> bool
+        ensures { Marking self.now marks.old marks.new result }
+    {
+        if marks.len() < self.count {
+            return false;
+        }
+        match self.whole_types() {
+            Some(whole) => {
+                marks[..self.count].copy_from_slice(&whole[..self.count]);
+                true
+            }
+            None => false,
+        }
     }
 }
