@@ -2,15 +2,15 @@
 -- The graph then tells of the file's types.
 -- Assumes nothing.
 use Rattle.std.proofs.Common.{ℕ, ◌+◌, ◌<◌, ◌≤◌, ◌≡◌, refl, sym, ap, ◌∙◌, Bool, true, false, cond, ◌&&◌, List, [], length, get_or, replicate, arith}
-use lib.ListN.{get_or-replicate, get_or-eq_default, length-replicate}
-use lib.Dec.{eqb, ltb}
-use borrow.Author.Tests.{eqb-true, eqb-false, ne_eqb, ltb-true, ltb-false}
+use lib.Dec.{eqb}
+use borrow.Author.Tests.{eqb-true, eqb-false, ne_eqb}
 use Rattle.fields.specs.Places.{value_at}
 use Rattle.catalog.specs.Catalog.{TypeDef, Catalog, type_def, catalog_of}
 use Rattle.catalog.specs.Finding.{any, is_parts}
 use Rattle.catalog.specs.Alike.{type_places}
 use Rattle.nesting.specs.declared.graph.Graph.{Graph}
 use Rattle.nesting.specs.Graph.{is_set, linked, is_of, OneMore, Resolves}
+use Rattle.nesting.proofs.Setting.{blank}
 use Rattle.types.specs.Tables.{RowLinked, TypeNoted}
 use Rattle.types.proofs.Places.{type-at, types-counted}
 
@@ -43,15 +43,6 @@ pub record Noted (s : List ℕ) (g : Graph) (k : ℕ) : Type 0 where
   pub parts : (j : ℕ) → j < k → is_set g.parts j ≡ is_parts (value_at type_def s (get_or (type_places s) j 0)).aoi
   pub no_links : (j u : ℕ) → k ≤ j → linked g.links j u ≡ false
   pub no_parts : (j : ℕ) → k ≤ j → is_set g.parts j ≡ false
-
-blank : {A : Type 0} (n i : ℕ) (x d : A) (P : A → Type 0) → P x → P d → P (get_or (replicate n x) i d)
-blank {A = A} n i x d P a b = go (ltb i n) refl
-  where
-    go : (t : Bool) → ltb i n ≡ t → P (get_or (replicate n x) i d)
-    go true e = rw (get_or-replicate {A = A} n i x d (ltb-true i n e)) a
-    go false e =
-        let q : length (replicate {A = A} n x) ≤ i = rw (length-replicate {A = A} n x) (ltb-false i n e) in
-        rw (get_or-eq_default (replicate {A = A} n x) d {n = i} q) b
 
 pub noted-start : (s ts : List ℕ) (g : Graph) → ts ≡ type_places s → g.count ≡ length ts → g.links ≡ replicate 128 (replicate 128 false) → g.parts ≡ replicate 128 false → Noted s g 0
 noted-start s ts g e n l p = record {

@@ -1,7 +1,7 @@
 -- The types of a file are what stands at their places, and a search by name goes through both in the same order.
 -- Assumes nothing.
 use Rattle.std.proofs.Common.{ℕ, zero, suc, ◌+◌, ◌<◌, ◌≡◌, refl, sym, ap, ◌∙◌, Bool, true, false, cond, List, [], ◌∷◌, length, map, take, drop, get_or, ◌≤◌, None, Some, arith}
-use Rattle.std.specs.Prelude.{slice_get}
+use Rattle.std.specs.Prelude.{Option, IsSome, slice_get}
 use Rattle.std.specs.List.{position_or_len}
 use Rattle.std.proofs.lemmas.Option.{none-some, same_Some}
 use lib.Dec.{ltb}
@@ -13,7 +13,9 @@ use Rattle.catalog.specs.Finding.{is_struct}
 use Rattle.catalog.specs.Alike.{name_at, types_start, type_places}
 use Rattle.catalog.specs.declared.Kind.{Kind}
 use Rattle.catalog.specs.declared.Kind.TheVariants.{Atomic, Struct, String}
-use Rattle.nesting.specs.Graph.{type_index, member_index}
+use Rattle.nesting.specs.declared.graph.Graph.{Graph}
+use Rattle.nesting.specs.Graph.{type_index, member_index, Made}
+use Rattle.nesting.proofs.Setting.{made-some, made-is}
 use Rattle.nodes.specs.Placed.{place_index}
 use Rattle.fields.specs.Writing.{answered}
 use Rattle.fields.proofs.Patches.{answer-front}
@@ -109,7 +111,21 @@ types-few s =
     let m = limited-max 128 (whole 2 (take 2 (drop (1 + length (take 2 (drop 1 s))) s))) in
     omega arith
 
-pub ruleset indexing = (index-placed, member-struct, member-other, types-few)
+-- by the words of the code, whose places `ts` are those of the file
+module _ (s ts : List ℕ) (e : ts ≡ type_places s) where
+  pub index_here : (w : Text) → place_index s w ts ≡ type_index w (catalog_of s).types 0
+  index_here w = ap (place_index s w) e ∙ index-placed s w
+
+  pub placed-few : length ts ≤ 128
+  placed-few = let f = types-few s in let l = ap length e in omega arith
+
+  -- a graph of as many types is there
+  pub graph-there : (r : Option Graph) → Made (length ts) r → IsSome r
+  graph-there r m = made-some (length ts) r m placed-few
+
+pub ruleset indexing = (index_here, member-struct, member-other, placed-few)
+
+pub ruleset making = (graph-there, made-is)
 
 -- ---- the places, as they were written down
 pub types-front : (s old out : List ℕ) (n : ℕ) → n ≡ length (type_places s) → out ≡ answered (type_places s) old → take n out ≡ type_places s
