@@ -1,10 +1,10 @@
 -- A loop over two size tables side by side, and one over sizes: the sizes that are left, one read more, and the end.
 -- Assumes nothing.
 use Prim.Native.Nat.{ℕ, ◌+◌, ◌≤◌, ◌<◌}
-use lib.ListN.{length, length-append, drop, get_or, drop_of_length-le}
+use lib.ListN.{length, drop, get_or, drop_of_length-le}
 use mathlib.Core.Logic.{◌⊎◌, inl, inr}
-use mathlib.Core.Path.{◌≡◌, refl, ap₂}
-use mathlib.Core.List.{List, [], ◌∷◌, append_assoc, append-nil}
+use mathlib.Core.Path.{◌≡◌, refl, ap, ap₂, ◌∙◌}
+use mathlib.Core.List.{List, [], ◌∷◌}
 use denote.Ref.{Bor}
 use Rattle.std.specs.Prelude.{None, Option, Some}
 use Rattle.std.proofs.Common.{Iter, add-one}
@@ -17,7 +17,8 @@ use Rattle.std.specs.Iterator.Adapters.{zip_first, zip_second}
 use Rattle.std.specs.Slice.Iter.{iter_rest}
 use Rattle.fields.specs.declared.Size.{Size}
 use Rattle.packing.specs.Tables.{sizes_of}
-use Rattle.packing.proofs.Sizing.{sizes-few}
+use Rattle.packing.specs.Facts.{size_at}
+use Rattle.packing.proofs.Sizing.{size-one}
 
 -- the sizes that a `zip` of two tables has left
 abbrev pub left : Zip (Iter ℕ) (Iter ℕ) → List Size
@@ -41,13 +42,13 @@ module _ (s t : Zip (Iter ℕ) (Iter ℕ)) (r : Option (Bor ℕ × Bor ℕ)) whe
       go [] us (inr e) = refl
       go (n ∷ ts) us (inr e) = rw e refl
 
--- what is kept and what is left
-pub ruleset sized = (append_assoc, append-nil, length-append, sizes-few)
-
 -- ---- a table of sizes, by their positions
 module _ (zs : List Size) (i : ℕ) where
-  pub sizes_next : (d : Size) → i < length zs → drop i zs ≡ get_or zs i d ∷ drop (i + 1) zs
-  sizes_next d h = rw add-one (drop-cons zs i d h)
+  pub sizes_next : i < length zs → drop i zs ≡ size_at zs i ∷ drop (i + 1) zs
+  sizes_next h =
+      let d : Size = record { request = 0; reply = 0 } in
+      let e : drop i zs ≡ get_or zs i d ∷ drop (i + 1) zs = rw add-one (drop-cons zs i d h) in
+      e ∙ ap (λ z. z ∷ drop (i + 1) zs) (size-one zs i d h)
 
   pub sizes_end : length zs ≤ i → drop i zs ≡ []
   sizes_end h = drop_of_length-le zs h

@@ -1,4 +1,4 @@
-use Rattle.std.proofs.Common.{◌≡◌, sym, ap, ◌∙◌, arith, rules}
+use Rattle.std.proofs.Common.{◌≡◌, arith, rules}
 use Rattle.packing.specs.Tables.{sizes_of}
 use Rattle.packing.proofs.Pairs.{left, left-more, left-none}
 use Rattle.packing.proofs.Counting.{filling}

@@ -9,13 +9,13 @@ loop-read-init c = sharing-start _ _ _ _ _ _ c.new-packer.ensures (search rules)
 pub loop-read-preserved : goal.loop-read-preserved
 loop-read-preserved c =
     elim c.match-take.branch [
-      | in-Alone w ↦ rw (w.out-is, w.next-is) (sharing-skips _ _ _ _ _ _ _ _ c.loop-read.invariant _ c.loop-read-test.true _ c.take.ensures.turn _ c.take.ensures.fill w.in-Alone.is)
-      | in-Joins w ↦ rw (w.out-is, w.next-is) (sharing-joins _ _ _ _ _ _ _ _ c.loop-read.invariant _ c.loop-read-test.true _ c.take.ensures.turn _ c.take.ensures.fill w.in-Joins.is c.args.self.now.few _ w.put_number.ensures)
-      | in-Opens w ↦ rw (w.out-is, w.next-is) (sharing-opens _ _ _ _ _ _ _ _ c.loop-read.invariant _ c.loop-read-test.true _ c.take.ensures.turn _ c.take.ensures.fill w.in-Opens.is _ w.joining_count-more.ensures.count c.args.self.now.few w.joining_count-more.ensures.few _ _ w.put_number-in-Opens.ensures w.put_number-in-Opens-2.ensures)
+      | in-Alone w ↦ rw (w.out-is, w.next-is) (sharing-skips _ _ _ _ _ _ _ _ c.loop-read.invariant (rw c.len-read-end.ensures at c.loop-read-test.true) _ (rw c.at.ensures at c.take.ensures.turn) _ (rw c.at.ensures at c.take.ensures.fill) w.in-Alone.is)
+      | in-Joins w ↦ rw (w.out-is, w.next-is) (sharing-joins _ _ _ _ _ _ _ _ c.loop-read.invariant (rw c.len-read-end.ensures at c.loop-read-test.true) _ (rw c.at.ensures at c.take.ensures.turn) _ (rw c.at.ensures at c.take.ensures.fill) w.in-Joins.is c.args.self.now.few _ w.put_number.ensures)
+      | in-Opens w ↦ rw (w.out-is, w.next-is) (sharing-opens _ _ _ _ _ _ _ _ c.loop-read.invariant (rw c.len-read-end.ensures at c.loop-read-test.true) _ (rw c.at.ensures at c.take.ensures.turn) _ (rw c.at.ensures at c.take.ensures.fill) w.in-Opens.is _ w.joining_count-more.ensures.count c.args.self.now.few w.joining_count-more.ensures.few _ _ w.put_number-in-Opens.ensures w.put_number-in-Opens-2.ensures)
     ]
 
 pub returns-clause-next : goal.returns-clause-next
-returns-clause-next c = (sharing-end _ _ _ _ _ _ _ _ c.loop-read.invariant c.loop-read-test.false).0
+returns-clause-next c = (sharing-end _ _ _ _ _ _ _ _ c.loop-read.invariant (rw c.len-read-end.ensures at c.loop-read-test.false)).0
 
 pub returns-clause-memory : goal.returns-clause-memory
-returns-clause-memory c = (sharing-end _ _ _ _ _ _ _ _ c.loop-read.invariant c.loop-read-test.false).1
+returns-clause-memory c = (sharing-end _ _ _ _ _ _ _ _ c.loop-read.invariant (rw c.len-read-end.ensures at c.loop-read-test.false)).1
