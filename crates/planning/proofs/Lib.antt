@@ -1,4 +1,3 @@
-pub mod Extents
 pub mod Entries
 pub mod Columnwise
 pub mod Applying

@@ -9,7 +9,7 @@ use reads::{Extent, wider};
 
 impl<'a> Planning<'a> {
     /// The extent of the indexes of the tags at some positions; none of no position.
-    #[tactic(auto, using(crate::proofs::Extents::wider_start, crate::proofs::Extents::wider_next, crate::proofs::Extents::wider_end))]
+    #[tactic(auto, using(reads::proofs::Extents::wider_start, reads::proofs::Extents::wider_next, reads::proofs::Extents::wider_end))]
     pub(crate) fn extent(&self, positions: &[u8]) -> Option<Extent>
         ensures extent { result ≡ extent_of (map (index_in self.now.tags.now) positions.now) }
         ensures ordered { IfSome result (λ e. e.least ≤ e.greatest) }

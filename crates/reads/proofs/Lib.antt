@@ -8,3 +8,5 @@ pub mod Filling
 pub mod Setting
 pub mod Lent
 pub mod Marked
+pub mod Extents
+pub mod Rooms

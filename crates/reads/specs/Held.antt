@@ -1,11 +1,12 @@
 -- Reads under way as values: which of them are covered, the positions that they serve, and their packets.
 -- Assumes nothing: these are definitions.
-use Rattle.std.specs.Prelude.{ℕ, ◌≡◌, Bool, false, List, [], map, length, get_or, Option, None}
+use Rattle.std.specs.Prelude.{ℕ, ◌≡◌, ◌+◌, Bool, false, cond, ◌&&◌, List, [], ◌∷◌, ◌++◌, map, length, get_or, ltb, leb, sum_by, Option, None}
 use Rattle.std.specs.List.{list_all}
 use Rattle.names.specs.Pieces.{joined}
 use Rattle.packing.specs.declared.Cost.{Cost}
 use Rattle.packing.specs.Told.{started, steps_of}
 use Rattle.planner.specs.Lists.{is_one_of}
+use Rattle.fields.specs.Fields.{limited}
 use Rattle.fields.specs.declared.Size.{Size}
 
 -- a read under way: the number of its group, none for a plain read; where its name stands in the list; the positions that it serves; its size
@@ -34,6 +35,22 @@ size_of r = r.size
 
 abbrev pub reply_of : Held → ℕ
 reply_of r = r.size.reply
+
+-- no entry of a size table is larger
+abbrev pub largest_size : ℕ
+largest_size = 1099511627776
+
+-- the bytes of its reply; a larger one counts 0
+abbrev pub limited_reply : Held → ℕ
+limited_reply r = limited largest_size (reply_of r)
+
+-- whether there is room for one read more, which serves `n` positions: 256 reads at most, which serve 256 positions at most
+unfoldable pub has_room : List Held → ℕ → Bool
+has_room rs n = ltb (length rs) 256 && leb (sum_by count_of rs + n) 256
+
+-- the reads with one more, if there is room for it
+unfoldable pub added : List Held → Held → List Held
+added rs r = cond (has_room rs (count_of r)) (rs ++ r ∷ []) rs
 
 -- a read whose positions are all marked
 abbrev pub is_covered : List Bool → Held → Bool

@@ -44,6 +44,10 @@ MergeTold marks into old new =
     → record { request = into.request; reply = into.reply } ≡ size_of g (ks into.group).shape (served (keep (is_covered marks) old))
     → reads_of g ks new ≡ (merged_of g (ks into.group) (reads_of g ks old) (keep (covers (ks into.group)) (reads_of g ks old))).reads
 
+-- the number of a position
+abbrev pub number_at : List ℕ → ℕ → ℕ
+number_at ns p = get_or ns p 0
+
 -- an extent, if there is one, with a number more
 abbrev pub wider : Option Extent → ℕ → Extent
 wider None n = record { least = n; greatest = n }

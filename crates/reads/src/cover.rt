@@ -1,7 +1,7 @@
 //! The covered ones among records that are lent: how many they are, what they reply, and the positions that they serve.
 ghost use Rattle.std.specs.Prelude.{◌≡◌, ◌≤◌, ◌^◌, map, length, take, sum_by};
 ghost use Rattle.planner.specs.Lists.{keep};
-ghost use Rattle.reads.specs.Held.{count_of, reply_of, is_covered, served};
+ghost use Rattle.reads.specs.Held.{count_of, reply_of, limited_reply, is_covered, served};
 ghost use Rattle.reads.specs.Rows.{held_in};
 
 use crate::row::Row;
@@ -35,6 +35,22 @@ pub(crate) fn total(rows: &[Row], members: &[u8; MOST_TAGS], marks: &[bool; MOST
         }
     }
     Covered { count, reply }
+}
+
+/// The replies of the covered ones together, of which one that is larger than any size table has counts as nothing.
+pub(crate) fn total_reply(rows: &[Row], members: &[u8; MOST_TAGS], marks: &[bool; MOST_TAGS]) -> u64
+    requires few { length rows.now ≤ MOST_TAGS }
+    ensures reply { result
+        ≡ sum_by limited_reply (keep (is_covered marks.now) (map (held_in members.now) rows.now)) }
+    ensures small { result ≤ 2 ^ 48 }
+{
+    let mut sum: u64 = 0;
+    for row in rows {
+        if row.is_covered(members, marks) {
+            sum += row.limited_reply();
+        }
+    }
+    sum
 }
 
 /// The positions of the covered ones, from the front of a buffer on; how many they are.

@@ -3,7 +3,8 @@ ghost use Rattle.std.specs.Prelude.{◌≡◌, ◌+◌, ◌^◌, ◌<◌, ◌≤
 ghost use Rattle.fields.specs.Format.{All};
 ghost use Rattle.planner.specs.Lists.{keep};
 ghost use Rattle.planner.specs.Merging.{in_place};
-ghost use Rattle.reads.specs.Held.{no_held, count_of, reply_of, is_covered, served, sized, packets_in};
+ghost use Rattle.reads.specs.Held.{no_held, count_of, reply_of, limited_reply, is_covered, served, sized, packets_in};
+ghost use Rattle.reads.specs.Held.{has_room, added};
 ghost use Rattle.reads.specs.Rows.{held, grouped};
 ghost use Rattle.reads.specs.Told.{plain_from};
 
@@ -13,9 +14,13 @@ use crate::{cover, pack};
 use fields::Size;
 use lists::layout::MOST_TAGS;
 use packing::Cost;
+use std::alloc::AllocError;
 use std::marker::Model;
 
-/// The reads under way, at most 256, which serve 256 positions at most.
+/// The reads under way: any list of at most 256 reads that serve 256 positions at most, all together. A read may be plain or of a group,
+/// under any number; its name may stand anywhere in the first 65,535 bytes of a list; it may serve any positions, none, or those that
+/// another read serves; and its request and its reply may be of any size. `new` and `add` tell such a list read by read, `plain` that of
+/// the tags, and `len` and `read` tell it back.
 // Arrays and how much of them is in use, and no `Table`: the positions of a read are put all at once, and a merge copies all. No `Debug`
 // and no `PartialEq`: what lies behind the reads in use would be printed and compared too.
 #[derive(Drop)]
@@ -40,9 +45,17 @@ impl Model for Reads {
     ghost invariant = { λ r. (r.count ≤ 256) × (r.used ≤ 256) × All (λ row. row.to ≤ r.used) (take r.count r.rows) × (r.used ≡ sum_by count_of (map (held_in r.members) (take r.count r.rows))) };
 }
 
+impl Clone for Reads {
+    fn clone(&self) -> Result<Self, AllocError>
+        ensures { result ≡ Ok self.now }
+    {
+        Ok(self.copy())
+    }
+}
+
 impl Reads {
     /// No read.
-    pub(crate) fn new() -> Self
+    pub fn new() -> Self
         ensures { result ≡ [] }
     {
         let none = Row {
@@ -84,8 +97,8 @@ impl Reads {
         reads
     }
 
-    /// The same reads in a table of their own.
-    pub(crate) fn copy(&self) -> Self
+    /// The same reads in a table of their own. It can't fail, as `clone` might by its type.
+    pub fn copy(&self) -> Self
         ensures { result ≡ self.now }
     {
         Reads {
@@ -139,6 +152,30 @@ impl Reads {
         }
     }
 
+    // How many positions they serve.
+    fn served(&self) -> usize
+        ensures served { result ≡ sum_by count_of self.now }
+        ensures within { result ≤ MOST_TAGS }
+    {
+        self.used
+    }
+
+    /// One read more, behind the others, if there is room for it and for its positions; whether there was. Else the reads stay as they are.
+    #[tactic(auto, using(crate::proofs::Rooms::no_row, crate::proofs::Rooms::no_place, crate::proofs::Rooms::room, crate::proofs::Rooms::added_no_row, crate::proofs::Rooms::added_no_place, crate::proofs::Rooms::added_room))]
+    pub fn add(&mut self, read: Read) -> bool
+        ensures room { result ≡ has_room self.old (length read.entry.serves.now) }
+        ensures reads { self.new ≡ added self.old (held read.entry) }
+    {
+        if MOST_TAGS <= self.len() {
+            return false;
+        }
+        if MOST_TAGS - self.served() < read.serves.len() {
+            return false;
+        }
+        self.push(read);
+        true
+    }
+
     /// One read more, behind the others.
     // The count and the place are stepped by hand: a table is what has them.
     pub(crate) fn push(&mut self, read: Read)
@@ -173,7 +210,7 @@ impl Reads {
         let to = from + serves.len();
         let own = read.serves.len();
         self.members[from..to].copy_from_slice(serves);
-        let mut row = Row {
+        self.rows[self.count] = Row {
             group: read.group,
             start: read.start,
             end: read.end,
@@ -182,8 +219,7 @@ impl Reads {
             request: read.request,
             reply: read.reply,
         };
-        row.grow((serves.len() - own) as u16, into);
-        self.rows[self.count] = row;
+        self.rows[self.count].grow((serves.len() - own) as u16, into);
         self.count += 1;
         self.used = to;
     }
@@ -197,6 +233,15 @@ impl Reads {
         ensures modest { All (λ r. reply_of r ≤ 2 ^ 40) self.now → result.reply ≤ 2 ^ 48 }
     {
         cover::total(&self.rows[..self.count], &self.members, marks)
+    }
+
+    /// The bytes of the replies of the covered reads together, of which one that is larger than any size table has counts as nothing: so
+    /// they are 2^48 at most, whatever the reads reply.
+    pub fn total_reply(&self, marks: &[bool; MOST_TAGS]) -> u64
+        ensures reply { result ≡ sum_by limited_reply (keep (is_covered marks.now) self.now) }
+        ensures small { result ≤ 2 ^ 48 }
+    {
+        cover::total_reply(&self.rows[..self.count], &self.members, marks)
     }
 
     /// The positions of the covered reads, from the front of a buffer on; how many they are.

@@ -1,6 +1,6 @@
 use Rattle.std.proofs.Common.{◌≡◌, ◌≤◌, map, drop, None, IfSome}
 use Rattle.considered.specs.Seen.{index_in}
-use Rattle.planning.proofs.Extents.{widened}
+use Rattle.reads.proofs.Extents.{widened}
 use Rattle.planning.proofs.planning.Planning.extent.Given as goal
 
 -- the extent of all is that so far with the indexes that are left

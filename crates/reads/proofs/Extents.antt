@@ -1,5 +1,5 @@
 -- The extent of numbers, number by number.
-use Rattle.std.proofs.Common.{◌≡◌, ◌+◌, ◌<◌, ◌≤◌, ℕ, min, max, List, [], ◌∷◌, length, map, drop, get_or, None, Option, Some, refl, ap, ap₂, ◌∙◌, arith}
+use Rattle.std.proofs.Common.{◌≡◌, ◌+◌, ◌<◌, ◌≤◌, ℕ, min, max, List, [], ◌∷◌, length, map, drop, get_or, None, Option, Some, unwrap_or, refl, ap, ap₂, ◌∙◌, arith}
 use lib.ListN.{drop_of_length-le}
 use Rattle.fields.proofs.Lists.{drop-next}
 use Rattle.planner.specs.Lists.{least, greatest}
@@ -41,3 +41,15 @@ module _ (f : ℕ → ℕ) (ps : List ℕ) where
 
   pub wider_start : widened None (map f ps) ≡ extent_of (map f ps)
   wider_start = widened_all (map f ps)
+
+-- the least and the greatest, 0 of none
+abbrev pub zero_extent : Extent
+zero_extent = record { least = 0; greatest = 0 }
+
+pub least-is : (ns : List ℕ) (o : Option Extent) (e : Extent) → o ≡ extent_of ns → e ≡ unwrap_or o zero_extent → (e.least ≡ least ns) × (e.greatest ≡ greatest ns)
+unfolding extent_of least greatest
+least-is ns o e p q = go ns (q ∙ ap (λ x. unwrap_or x zero_extent) p)
+  where
+    go : (ns : List ℕ) → e ≡ unwrap_or (extent_of ns) zero_extent → (e.least ≡ least ns) × (e.greatest ≡ greatest ns)
+    go [] q = (ap (λ (x : Extent). x.least) q, ap (λ (x : Extent). x.greatest) q)
+    go (n ∷ ns) q = (ap (λ (x : Extent). x.least) q, ap (λ (x : Extent). x.greatest) q)
