@@ -21,7 +21,7 @@ impl<'a> Listed<'a> {
         ensures { result.now ≡ take end (names_of self.now.list.now self.now.tags.now tag) }
     {
         let place = tag_at(self.tags, tag).place;
-        prefix(self.list, usize::from(place), usize::from(end))
+        prefix(self.list, place, usize::from(end))
     }
 
     /// Whether a tag is the first that is so called.

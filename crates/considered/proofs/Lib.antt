@@ -11,4 +11,3 @@ pub mod Alikes
 pub mod Viewing
 pub mod Considering
 pub mod Deciding
-pub mod Within

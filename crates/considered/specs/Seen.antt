@@ -44,9 +44,9 @@ row_in r = record { tag = r.tag; end = r.end; size = r.size }
 abbrev pub text_in : List ℕ → TagRow → Text
 text_in list t = text_at list t.place
 
--- no tag: its place is past every list
+-- no tag: its place is past every list, of any length
 abbrev pub no_tag : TagRow
-no_tag = record { place = 16384; is_first = false; element = None; size = record { request = 0; reply = 0 } }
+no_tag = record { place = 18446744073709551615; is_first = false; element = None; size = record { request = 0; reply = 0 } }
 
 -- the tag at a position
 abbrev pub tag_in : List TagRow → ℕ → TagRow

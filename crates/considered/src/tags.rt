@@ -12,9 +12,6 @@ pub const MOST_LEVELS: usize = 64;
 /// The most rows of structs above the tags: one for each token of each tag.
 pub const MOST_ROWS: usize = 16384;
 
-// A place past every list, whose files are no longer.
-const PAST_LISTS: u16 = 16384;
-
 /// The element of an array that a tag is: its bytes, its index, and the bytes of the array's name.
 #[derive(Clone, Copy, Debug, PartialEq, Eq)]
 pub struct Element {
@@ -27,16 +24,16 @@ pub struct Element {
 /// array that it is, and the bytes of a plain read of it.
 #[derive(Clone, Copy, Debug, PartialEq, Eq)]
 pub struct Tag {
-    pub place: u16,
+    pub place: usize,
     pub is_first: bool,
     pub element: Option<Element>,
     pub size: Size,
 }
 
 impl Tag {
-    /// A row that tells nothing, as a new table holds it: its place is past every list.
+    /// A row that tells nothing, as a new table holds it: its place is past every list, of any length, so its name is empty.
     pub const BLANK: Tag = Tag {
-        place: PAST_LISTS,
+        place: usize::MAX,
         is_first: false,
         element: None,
         size: Size {

@@ -143,10 +143,10 @@ fn view_tag(files: &Files, name: &[u8], is_known: bool, tag: u8, rows: &mut Rows
 }
 
 // The text at a place of a list.
-fn text_at(list: &[u8], place: u16) -> &[u8]
+fn text_at(list: &[u8], place: usize) -> &[u8]
     ensures { result.now ≡ text_at list.now place }
 {
-    let part = part_at(list, usize::from(place));
+    let part = part_at(list, place);
     &list[part.start..part.end]
 }
 
@@ -178,7 +178,7 @@ fn is_spelled(list: &[u8], name: &[u8], twin: Option<&Tag>) -> bool
 }
 
 /// Looks at the tag at a place, behind the tags before it, and puts down the rows of the structs above it.
-pub fn see_tag(files: &Files, place: u16, before: &[Tag], rows: &mut Rows) -> Tag
+pub fn see_tag(files: &Files, place: usize, before: &[Tag], rows: &mut Rows) -> Tag
     requires limited { Limited (text_at files.now.list.now place) }
     requires few { length before.now < MOST_TAGS }
     requires room { length rows.old + MOST_LEVELS ≤ MOST_ROWS }

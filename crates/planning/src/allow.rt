@@ -17,7 +17,7 @@ impl Planning<'_> {
     fn tag_length(&self, position: u8) -> usize
         ensures { result ≡ length (text_by self.now.list.now self.now.tags.now position) }
     {
-        let text = part_at(self.list, usize::from(tag_at(self.tags, position).place));
+        let text = part_at(self.list, tag_at(self.tags, position).place);
         text.end - text.start
     }
 

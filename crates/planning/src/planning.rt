@@ -48,7 +48,7 @@ impl<'a> Planning<'a> {
         ensures short { result.end - result.start ≤ 255 }
     {
         let group = self.groups.group(j).group;
-        let place = usize::from(tag_at(self.tags, group.tag).place);
+        let place = tag_at(self.tags, group.tag).place;
         prefix_at(self.list, place, usize::from(group.end))
     }
 
