@@ -1,5 +1,7 @@
 // The calls whose answers the code under test does not lay out itself: their inputs are read here, and what they answer is written as the
 // stored answers have it.
+ghost use Rattle.std.specs.Prelude.{◌≤◌, length};
+
 use crate::cases::Case;
 use crate::output::Output;
 use fields::check::{text_at, text_past};
@@ -59,7 +61,9 @@ pub(crate) fn read_sizes(case: Case, out: &mut [u8]) -> Written {
 }
 
 // The numbers of a table, 8 bytes each, no more of them than there is room for.
-fn read_table<'a>(s: &[u8], numbers: &'a mut [u64]) -> &'a [u64] {
+fn read_table<'a>(s: &[u8], numbers: &'a mut [u64]) -> &'a [u64]
+    ensures within { length result.now ≤ length numbers.old }
+{
     let count = numbers.len().min(s.len() / 8);
     for (number, bytes) in numbers.iter_mut().zip(s.as_chunks::<8>().0) {
         *number = u64::from_be_bytes(*bytes);
@@ -123,7 +127,9 @@ pub(crate) fn list(case: Case, out: &mut [u8]) -> Written {
 }
 
 // The path of the member at a place of a plan, key count and keys: nothing where it has none.
-fn path_at(s: &[u8], at: usize) -> &[u8] {
+fn path_at(s: &[u8], at: usize) -> &[u8]
+    ensures within { length result.now ≤ length s.now }
+{
     let keys = text_past(s, at).saturating_add(1);
     s.get(keys..member_past(s, at)).unwrap_or_default()
 }
