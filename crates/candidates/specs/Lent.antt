@@ -14,13 +14,15 @@ use Rattle.candidates.specs.declared.above.Above.{Above}
 use Rattle.candidates.specs.declared.above.Keyed.{Keyed}
 use Rattle.candidates.specs.declared.runs.Elements.{Elements}
 
--- the name of each tag, whether it is the first so called, and the elements that tags are
+-- the name of each tag
 abbrev pub names : Listed → ℕ → Text
 names l = names_of l.list.now l.tags.now
 
+-- whether a tag is the first of its name
 abbrev pub firsts : Listed → ℕ → Bool
 firsts l = firsts_of l.tags.now
 
+-- the elements that tags are
 abbrev pub elements : Listed → ToldElements
 elements l = elements_of l.tags.now
 
@@ -34,13 +36,15 @@ keys a = key_at (names a.listed) a.rows.now
 abbrev pub name_in : Keyed → ℕ → ℕ → Bool
 name_in k = is_name_under (firsts k.above.listed) k.above.rows.now k.heads.now
 
--- the names that lie under the struct of a row, its tags, and whether it is one with two names
+-- how many names lie under the struct of a row
 abbrev pub names_in : Keyed → ℕ → ℕ
 names_in k = names_under (firsts k.above.listed) k.above.rows.now k.heads.now
 
+-- the tags that are or lie under the struct of a row
 abbrev pub tags_in : Keyed → ℕ → List ℕ
 tags_in k = tags_under k.above.rows.now k.heads.now
 
+-- whether a row is the first with its key, and two names lie under its struct
 abbrev pub starts_group : Keyed → ℕ → Bool
 starts_group k = is_group (firsts k.above.listed) k.above.rows.now k.heads.now
 
@@ -54,10 +58,11 @@ groups_in k = groups_from (firsts k.above.listed) k.above.rows.now k.heads.now
 abbrev pub count_of : Elements → ℕ
 count_of e = length e.listed.tags.now
 
--- whether a tag is one of the array of another, and whether it is the last of its array
+-- whether a tag is an element of the array of another
 abbrev pub member_of : Elements → ℕ → ℕ → Bool
 member_of e = is_member (names e.listed) (firsts e.listed) (elements e.listed)
 
+-- whether a tag is the last element of its array
 abbrev pub last_of : Elements → ℕ → Bool
 last_of e = is_last (names e.listed) (firsts e.listed) (elements e.listed) (count_of e)
 
@@ -73,16 +78,18 @@ indexes_of e p = rising (map (elements e.listed).index (keep (member_of e p) (po
 abbrev pub run_tags : Elements → ℕ → List ℕ → List ℕ
 run_tags e p is = keep (is_in_run (names e.listed) (elements e.listed) p is) (positions 0 (count_of e))
 
--- the runs at these indexes, of one array, and of all
+-- the runs at these indexes of the array of a tag
 abbrev pub cluster_runs : Elements → ℕ → List ℕ → List Bunch
 cluster_runs e p is =
     bunches_from (names e.listed) (elements e.listed) (positions 0 (count_of e)) p 1 (clusters_of (is_near e.gap ((elements e.listed).width p)) is)
 
+-- the runs of the array of a tag
 abbrev pub runs_at : Elements → ℕ → List Bunch
 runs_at e =
     let all = positions 0 (count_of e) in
     array_runs (names e.listed) (elements e.listed) e.gap all (keep (is_first_piece (firsts e.listed) (elements e.listed)) all)
 
+-- all runs
 abbrev pub all_runs : Elements → List Bunch
 all_runs e = runs_in (names e.listed) (firsts e.listed) (elements e.listed) e.gap (count_of e)
 

@@ -15,7 +15,7 @@ row_place NoGroup s = no_group_place s
 row_place Together s = together_place s
 row_place Tags s = tags_place s
 
--- list: "no-group count (2, at most 256)", "together count (2, at most 64)", "tag count (2, at most 256)"
+-- rule 3.1: the most texts of a row
 abbrev pub row_most : Row → ℕ
 row_most NoGroup = 256
 row_most Together = 64

@@ -29,6 +29,7 @@ Gives s None t = (step_at s.name.now s.at ≡ Ok None) × (t.at ≡ s.at)
 Gives s (Some (Ok p)) t = (step_at s.name.now s.at ≡ Ok (Some p.1)) × (p.0.now ≡ part s.at p.1.end s.name.now) × (t.at ≡ p.1.end)
 Gives s (Some (Err i)) t = (step_at s.name.now s.at ≡ Err i) × (t.at ≡ length s.name.now)
 
+-- what a call gives, the name being as it was
 abbrev pub Walks : Tokens → Option (Result (Bor (List ℕ) × Told) Stop) → Tokens → Type 0
 Walks s r t = (t.name.now ≡ s.name.now) × Gives s r t
 

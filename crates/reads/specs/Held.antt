@@ -29,10 +29,11 @@ no_held = sized 0 0
 abbrev pub count_of : Held → ℕ
 count_of r = length r.serves
 
--- its size, and the bytes of its reply
+-- its size
 abbrev pub size_of : Held → Size
 size_of r = r.size
 
+-- the bytes of its reply
 abbrev pub reply_of : Held → ℕ
 reply_of r = r.size.reply
 
