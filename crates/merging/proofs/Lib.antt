@@ -1,0 +1,9 @@
+pub mod Apart
+pub mod Closing
+pub mod Counting
+pub mod Covering
+pub mod Extents
+pub mod Flags
+pub mod Gathering
+pub mod Marks
+pub mod Parts

@@ -1,0 +1,4 @@
+pub mod Closing
+pub mod Copying
+pub mod Flags
+pub mod Merging
