@@ -1,6 +1,6 @@
 // Fields that repeat. A `Field` is checked and passed as its format says, and a row of them is checked, passed and
 // walked place by place by one function each, whatever the field.
-ghost use Rattle.std.specs.Prelude.{◌≡◌, ◌<◌, ◌≤◌, ℕ, length, List, Option};
+ghost use Rattle.std.specs.Prelude.{◌≡◌, ◌<◌, ℕ, length, min, List, Option};
 ghost use Rattle.std.specs.Iterator.{YieldsFirst, YieldsFirstRef, item_count};
 ghost use Rattle.fields.specs.Format.{Format, many};
 ghost use Rattle.fields.specs.Places.{check_at, place_at, places_from, bytes_of};
@@ -271,13 +271,14 @@ impl<'a> Iterator for Texts<'a> {
     }
 }
 
-/// Writes down where each of `n` of a field in a row stands, of which the first stands at `from`.
+/// Writes down where each of `n` of a field in a row stands, of which the first stands at `from`; where there is room for fewer, the
+/// first of them.
 pub fn put_places<F: Field>(field: &F, s: &[u8], from: usize, n: usize, places: &mut [usize])
-    requires { n ≤ length places.old }
-    ensures { places.new ≡ answered (places_from (F.format field.now) n s.now from) places.old }
+    ensures { let few = min n (length places.old) in
+        places.new ≡ answered (places_from (F.format field.now) few s.now from) places.old }
 {
     let mut at = from;
-    for i in 0..n {
+    for i in 0..n.min(places.len()) {
         places[i] = at;
         at = field.past(s, at);
     }

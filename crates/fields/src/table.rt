@@ -48,14 +48,16 @@ impl<T: Copy, const N: usize> Table<T, N> {
         self.rows().len()
     }
 
-    /// Puts a row behind the others.
+    /// Puts a row behind the others, if there is room for it; a full table stays as it is.
     // The count is stepped by hand: a table is what has it.
     pub fn push(&mut self, row: T)
-        requires { length self.old < N }
-        ensures { self.new ≡ self.old ++ row ∷ [] }
+        ensures room { length self.old < N → self.new ≡ self.old ++ row ∷ [] }
+        ensures full { N ≤ length self.old → self.new ≡ self.old }
     {
-        self.rows[self.len] = row;
-        self.len += 1;
+        if self.len < N {
+            self.rows[self.len] = row;
+            self.len += 1;
+        }
     }
 
     /// Leaves no row in use.

@@ -10,7 +10,7 @@ loop-k-init c = gathering-start _ _ _ _ c.clear.ensures (tags-all _ _ _)
 
 pub loop-k-preserved : goal.loop-k-preserved
 loop-k-preserved c = elim c.if-is_under.branch [
-  | then-is_under w ↦ rw w.tags-is (gathering-yes _ _ _ _ c.loop-k.invariant _ _ _ (tags-more _ _ _ _ (omega arith) (sym c.is_under.ensures ∙ w.if-is_under.true)) w.push.ensures)
+  | then-is_under w ↦ rw w.tags-is (gathering-yes _ _ _ _ c.loop-k.invariant _ _ _ (tags-more _ _ _ _ (omega arith) (sym c.is_under.ensures ∙ w.if-is_under.true)) (w.push.ensures.room (omega arith)))
   | else-is_under w ↦ rw w.tags-is (gathering-no _ _ _ _ c.loop-k.invariant _ (tags-skip _ _ _ _ (omega arith) (sym c.is_under.ensures ∙ w.if-is_under.false)))
 ]
 

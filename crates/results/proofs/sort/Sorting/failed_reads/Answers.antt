@@ -12,7 +12,7 @@ loop-i-preserved c =
     let d = rw c.rows.ensures.rows at c.is_failed.ensures in
     elim c.if-is_failed.branch [
       | then-is_failed w ↦ rw w.failed-is
-          (failing-added _ _ _ _ _ _ _ c.loop-i.invariant (omega (arith, h, c.loop-i-test.true)) _ d _ _ c.read_past-p.ensures c.result_past-q.ensures w.if-is_failed.true _ refl refl _ w.push.ensures)
+          (failing-added _ _ _ _ _ _ _ c.loop-i.invariant (omega (arith, h, c.loop-i-test.true)) _ d _ _ c.read_past-p.ensures c.result_past-q.ensures w.if-is_failed.true _ refl refl _ (w.push.ensures.room (omega (arith, h, c.pair_count-i-end.ensures.within))))
       | else-is_failed w ↦ rw w.failed-is
           (failing-passed _ _ _ _ _ _ _ c.loop-i.invariant (omega (arith, h, c.loop-i-test.true)) _ d _ _ c.read_past-p.ensures c.result_past-q.ensures w.if-is_failed.false)
     ]
