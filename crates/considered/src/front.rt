@@ -85,7 +85,7 @@ impl<'a> Front<'a> {
 
     /// The bytes of a plain read.
     #[tactic(auto, using(crate::proofs::Noded::plains))]
-    pub fn size(&self) -> Size
+    pub(crate) fn size(&self) -> Size
         requires { length self.now.name.now ≤ longest_name }
         ensures { let catalog = catalog_of self.now.files.now.catalog.now in
             result ≡ read_size catalog self.now.name.now }
@@ -99,7 +99,7 @@ impl<'a> Front<'a> {
 
     /// Whether the climb goes on over the token behind the name, of which this is the text.
     #[tactic(auto, using(crate::proofs::Named::climbing_over))]
-    pub fn climbs_over(&self, text: &[u8]) -> bool
+    pub(crate) fn climbs_over(&self, text: &[u8]) -> bool
         requires { LaterText text.now }
         ensures { let node = found_in self.now.files.now.catalog.now self.now.node in
             result ≡ piece_climbs node (later_token text.now) }
@@ -122,7 +122,7 @@ impl<'a> Front<'a> {
 
 /// The one index that a token is, of which this is the text.
 #[tactic(auto, using(crate::proofs::Named::one_indexes))]
-pub fn one_index(text: &[u8]) -> Option<u64>
+pub(crate) fn one_index(text: &[u8]) -> Option<u64>
     requires { LaterText text.now }
     ensures { result ≡ index_read (later_token text.now) }
 {

@@ -66,7 +66,7 @@ fn put_levels(
 
 /// The levels of a name; none of one that does not read.
 #[tactic(auto, using(crate::proofs::Resolving::stopped_levelled))]
-pub fn levels_in(files: &Files, name: &[u8]) -> Table<Level, MOST_LEVELS>
+pub(crate) fn levels_in(files: &Files, name: &[u8]) -> Table<Level, MOST_LEVELS>
     requires { length name.now ≤ LONGEST_NAME }
     ensures { result ≡ levels_of files.now.catalog.now name.now }
 {
@@ -90,7 +90,7 @@ pub struct Resolved<'a> {
 impl<'a> Resolved<'a> {
     /// The front at a level.
     #[tactic(auto, using(crate::proofs::Fronts::levels))]
-    pub fn front(&self, level: usize) -> Front<'a>
+    pub(crate) fn front(&self, level: usize) -> Front<'a>
         requires { level < length (tokens_of self.now.name.now) }
         ensures catalog { result.files.now.catalog.now ≡ self.now.files.now.catalog.now }
         ensures list { result.files.now.list.now ≡ self.now.files.now.list.now }
@@ -106,7 +106,7 @@ impl<'a> Resolved<'a> {
 
     /// Whether the climb goes on over the token at a position.
     #[tactic(auto, using(crate::proofs::Fronts::levels))]
-    pub fn goes_on(&self, token: usize) -> bool
+    pub(crate) fn goes_on(&self, token: usize) -> bool
         requires { token < length (tokens_of self.now.name.now) }
         ensures { let tokens = tokens_of self.now.name.now in
             let catalog = catalog_of self.now.files.now.catalog.now in

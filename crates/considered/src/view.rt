@@ -178,7 +178,7 @@ fn is_spelled(list: &[u8], name: &[u8], twin: Option<&Tag>) -> bool
 }
 
 /// Looks at the tag at a place, behind the tags before it, and puts down the rows of the structs above it.
-pub fn see_tag(files: &Files, place: usize, before: &[Tag], rows: &mut Rows) -> Tag
+pub(crate) fn see_tag(files: &Files, place: usize, before: &[Tag], rows: &mut Rows) -> Tag
     requires limited { Limited (text_at files.now.list.now place) }
     requires few { length before.now < MOST_TAGS }
     requires room { length rows.old + MOST_LEVELS ≤ MOST_ROWS }
