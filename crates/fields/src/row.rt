@@ -174,7 +174,7 @@ impl<F: Field> Field for Optional<F> {
 
     ghost seamless = { λ held. seamless_optional (F.format held.field) (F.seamless held.field) };
 
-    // Inlined by a hint: it is two of the seven checks of a node, and a catalog has many nodes.
+    // Inlined by a hint: it is two of the six checks of a node, and a catalog has many nodes.
     #[inline(always)]
     #[tactic(auto, using(crate::proofs::Passing::flags))]
     fn check(&self, s: &[u8], at: usize) -> Result<usize, Refusal> {
