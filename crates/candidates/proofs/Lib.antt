@@ -21,3 +21,4 @@ pub mod RunsOf
 pub mod Levels
 pub mod Pushing
 pub mod Written
+pub mod Rooms

@@ -1,6 +1,6 @@
 -- The groups as a list: what a row of the table tells, with the positions of all groups in a row beside it.
 -- Assumes nothing: these are definitions.
-use Rattle.std.specs.Prelude.{ℕ, ◌+◌, ◌-◌, ◌≤◌, List, [], take, drop, length, get_or, sum_by}
+use Rattle.std.specs.Prelude.{ℕ, ◌+◌, ◌-◌, ◌≤◌, Bool, cond, ◌&&◌, List, [], ◌∷◌, ◌++◌, take, drop, length, get_or, ltb, leb, sum_by}
 use Rattle.candidates.specs.Columns.{Bunch}
 use Rattle.candidates.specs.declared.table.Shape.{Shape}
 use Rattle.candidates.specs.declared.table.Shape.TheVariants.{Struct, Run}
@@ -46,3 +46,11 @@ bunch s = bunch_with s.group s.serves.now
 pub record Room (bs more : List Bunch) : Type 0 where
   pub groups : length bs + length more ≤ 8448
   pub served : sum_by served_count bs + sum_by served_count more ≤ 16640
+
+-- whether there is room for one group more, which serves `n` positions: 8,448 groups at most, which serve 16,640 positions at most
+unfoldable pub has_room_for : List Bunch → ℕ → Bool
+has_room_for bs n = ltb (length bs) 8448 && leb (sum_by served_count bs + n) 16640
+
+-- the groups with one more, if there is room for it
+unfoldable pub added : List Bunch → Bunch → List Bunch
+added bs b = cond (has_room_for bs (served_count b)) (bs ++ b ∷ []) bs

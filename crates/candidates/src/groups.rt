@@ -1,7 +1,7 @@
 // The groups: what may be read in one, each with the positions of the tags that it serves. A row says where the positions of its group
 // start and end in the row of positions that stands beside the rows; callers see a list of groups.
 ghost use Rattle.std.specs.Prelude.{◌≡◌, ◌<◌, ◌≤◌, ◌+◌, [], ◌∷◌, ◌++◌, length, sum_by};
-ghost use Rattle.candidates.specs.Groups.{bunch, bunch_at, bunch_with, served_count};
+ghost use Rattle.candidates.specs.Groups.{bunch, bunch_at, bunch_with, served_count, has_room_for, added};
 
 use crate::table::{Entry, Group};
 use crate::{GROUPS, SERVED};
@@ -14,7 +14,9 @@ pub struct Served<'a> {
     pub serves: &'a [u8],
 }
 
-/// The groups, at most 8,448, which serve 16,640 positions at most.
+/// The groups: any list of at most 8,448 groups that serve 16,640 positions at most, all together. A group may have any tag, end and shape,
+/// and serve any positions, none, or those that another group serves. `new` and `add` tell such a list group by group, `struct_groups`
+/// and `run_groups` those of a list's tags, and `len` and `group` tell it back.
 // Arrays and how much of them is in use, and no `Table`: the positions of a group are put all at once. No `Debug` and no `PartialEq`: what
 // lies behind the groups in use would be printed and compared too.
 #[derive(Drop)]
@@ -58,7 +60,7 @@ impl Groups {
 
     /// No group is left.
     // This and `len` are those of `Reads` too, a line and a fact in a clause each: a trait for both would need laws of its own.
-    pub(crate) fn clear(&mut self)
+    pub fn clear(&mut self)
         ensures { self.new ≡ [] }
     {
         self.count = 0;
@@ -75,7 +77,7 @@ impl Groups {
     }
 
     /// How many positions they serve.
-    pub(crate) fn served(&self) -> usize
+    pub fn served(&self) -> usize
         ensures { result ≡ sum_by served_count self.now }
     {
         self.used
@@ -97,6 +99,24 @@ impl Groups {
             group: row.group,
             serves: &self.positions[usize::from(row.from)..usize::from(row.to)],
         }
+    }
+
+    /// One group more, behind the others, which serves these positions, if there is room for it and for them; whether there was. Else the
+    /// groups stay as they are.
+    // Two tests, and nothing is written before both.
+    #[tactic(auto, using(crate::proofs::Rooms::no_row, crate::proofs::Rooms::no_place, crate::proofs::Rooms::room, crate::proofs::Rooms::added_no_row, crate::proofs::Rooms::added_no_place, crate::proofs::Rooms::added_room))]
+    pub fn add(&mut self, group: Group, serves: &[u8]) -> bool
+        ensures room { result ≡ has_room_for self.old (length serves.now) }
+        ensures groups { self.new ≡ added self.old (bunch_with group serves.now) }
+    {
+        if GROUPS <= self.len() {
+            return false;
+        }
+        if SERVED - self.served() < serves.len() {
+            return false;
+        }
+        self.push(group, serves);
+        true
     }
 
     /// One group more, behind the others, which serves these positions.
