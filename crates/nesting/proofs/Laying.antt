@@ -1,17 +1,17 @@
 -- Tables of any length, laid out as a graph: what the graph tells of its types is what the tables tell.
 -- For more types than there may be nothing is looked at.
 -- Assumes nothing.
-use Rattle.std.proofs.Common.{ℕ, zero, suc, ◌+◌, ◌*◌, ◌/◌, ◌%◌, ◌<◌, ◌≤◌, ◌≡◌, refl, sym, ap, ◌∙◌, Bool, true, false, cond, not, ◌&&◌, List, [], ◌++◌, length, drop, min, replicate, arith}
+use Rattle.std.proofs.Common.{ℕ, zero, suc, ◌+◌, ◌*◌, ◌/◌, ◌%◌, ◌<◌, ◌≤◌, ◌≡◌, refl, sym, ap, ◌∙◌, Bool, true, false, cond, not, ◌&&◌, List, [], ◌∷◌, length, drop, min, replicate, arith}
 use Rattle.std.specs.Prelude.{None, Option, Some}
 use Rattle.std.proofs.Math.Nat.{min-eq_left}
 use Rattle.std.proofs.lemmas.List.{get_or-take, get_or-drop}
 use lib.Dec.{leb, eqb}
 use borrow.Author.Tests.{le-leb, lt-leb, eqb-true, eqb-false}
 use Rattle.nesting.specs.declared.graph.Graph.{Graph}
-use Rattle.nesting.specs.Graph.{is_set, linked, any_from, every_from, first_from, onward, spared, over_at, whole_at, first_over, listed, OneMore, OneLinkMore, Unlinked, Made, each_from, whole_row, walkable, Marking}
-use Rattle.nesting.specs.Tables.{rows_of, tables, first_told, TablesMarked, Laid, MadeOf, LinksLaid, PartsLaid}
-use Rattle.nesting.proofs.Ranges.{any_same, every-same, first-same}
-use Rattle.nesting.proofs.Marked.{each_same, row-length}
+use Rattle.fields.specs.Writing.{answered}
+use Rattle.nesting.specs.Graph.{is_set, marked, linked, any_from, every_from, first_from, onward, spared, over_at, whole_at, first_over, listed, OneMore, OneLinkMore, Unlinked, Made, marks_from, whole_marks, walkable, Marking}
+use Rattle.nesting.specs.Tables.{truths, rows_of, tables, first_told, TablesMarked, Laid, MadeOf, LinksLaid, PartsLaid}
+use Rattle.nesting.proofs.Ranges.{any_same, every-same, first-same, marks_same}
 use Rattle.nesting.proofs.Setting.{blank}
 
 -- ---- graphs that tell the same of their types
@@ -53,22 +53,34 @@ module _ (g h : Graph) (A : Agree g h) where
       ap (λ n. cond (leb g.count 128) n g.count) (first-same (over_at 16 g) (over_at 16 h) g.count 0 (λ u l. over-agree 16 u (omega arith)))
       ∙ ap (λ c. cond (leb c 128) (first_from (over_at 16 h) c 0) c) A.count
 
-  pub row-agree : whole_row g ≡ whole_row h
-  unfolding whole_row
-  row-agree =
-      each_same (whole_at 16 g) (whole_at 16 h) g.count 0 (λ u l. whole-agree 16 u (omega arith)) ∙ ap (λ c. each_from (whole_at 16 h) c 0) A.count
+  pub marks-agree : whole_marks g ≡ whole_marks h
+  unfolding whole_marks
+  marks-agree =
+      marks_same (whole_at 16 g) (whole_at 16 h) g.count 0 (λ u l. whole-agree 16 u (omega arith)) ∙ ap (λ c. marks_from (whole_at 16 h) c 0) A.count
+
+-- ---- bytes as truths
+-- THEOREM: an entry is set where its byte is 1
+pub truth-at : (t : List ℕ) (i : ℕ) → is_set (truths t) i ≡ marked t i
+unfolding marked
+truth-at [] i = refl
+truth-at (b ∷ t) zero = refl
+truth-at (b ∷ t) (suc i) = truth-at t i
 
 -- ---- rows of a table
-pub linked-at : (n : ℕ) (t : List Bool) (j u : ℕ) → j < n → u < 128 → linked (rows_of n t) j u ≡ is_set t (j * 128 + u)
+linked_at : (n : ℕ) (t : List Bool) (j u : ℕ) → j < n → u < 128 → linked (rows_of n t) j u ≡ is_set t (j * 128 + u)
 unfolding rows_of
-linked-at zero t j u h l = absurd (omega arith)
-linked-at (suc n) t zero u h l = let z : 0 * 128 + u ≡ u = omega arith in rw z (get_or-take 128 t u false l)
-linked-at (suc n) t (suc j) u h l =
+linked_at zero t j u h l = absurd (omega arith)
+linked_at (suc n) t zero u h l = let z : 0 * 128 + u ≡ u = omega arith in rw z (get_or-take 128 t u false l)
+linked_at (suc n) t (suc j) u h l =
     let z : 128 + (j * 128 + u) ≡ suc j * 128 + u = omega arith in
-    linked-at n (drop 128 t) j u (omega arith) l ∙ get_or-drop 128 t (j * 128 + u) false ∙ ap (is_set t) z
+    linked_at n (drop 128 t) j u (omega arith) l ∙ get_or-drop 128 t (j * 128 + u) false ∙ ap (is_set t) z
+
+-- THEOREM: the link from type `j` to type `u` is set where the byte at `j * 128 + u` is 1
+pub linked-at : (n : ℕ) (t : List ℕ) (j u : ℕ) → j < n → u < 128 → linked (rows_of n (truths t)) j u ≡ marked t (j * 128 + u)
+linked-at n t j u h l = linked_at n (truths t) j u h l ∙ truth-at t (j * 128 + u)
 
 -- ---- the graph that the tables are laid out in
-module _ (links parts : List Bool) (count : ℕ) (g : Graph) (L : Laid links parts count g) where
+module _ (links parts : List ℕ) (count : ℕ) (g : Graph) (L : Laid links parts count g) where
   pub laid-few : count ≤ 128
   laid-few = let e = L.count in let f = g.few in omega arith
 
@@ -79,23 +91,23 @@ module _ (links parts : List Bool) (count : ℕ) (g : Graph) (L : Laid links par
       record {
         count = L.count ∙ sym (min-eq_left f);
         links = λ j u a b. L.links j u (omega arith) (omega arith) ∙ sym (linked-at 128 links j u (omega arith) (omega arith));
-        parts = λ j a. L.parts j (omega arith);
+        parts = λ j a. L.parts j (omega arith) ∙ sym (truth-at parts j);
       }
 
 -- ---- laying them out
 -- the entries before `i` of the table of links are noted
-pub record LinksGoing (ls : List Bool) (old out : Graph) (i : ℕ) : Type 0 where
-  pub done : (j u : ℕ) → u < 128 → j * 128 + u < i → linked out.links j u ≡ cond (is_set ls (j * 128 + u)) true (linked old.links j u)
+pub record LinksGoing (ls : List ℕ) (old out : Graph) (i : ℕ) : Type 0 where
+  pub done : (j u : ℕ) → u < 128 → j * 128 + u < i → linked out.links j u ≡ cond (marked ls (j * 128 + u)) true (linked old.links j u)
   pub left : (j u : ℕ) → u < 128 → i ≤ j * 128 + u → linked out.links j u ≡ linked old.links j u
   pub parts : out.parts ≡ old.parts
   pub count : out.count ≡ old.count
 
-module _ (links : List Bool) (old : Graph) where
+module _ (links : List ℕ) (old : Graph) where
   pub links-start : LinksGoing links old old 0
   links-start = record { done = λ j u l h. absurd (omega arith); left = λ j u l h. refl; parts = refl; count = refl }
 
   module _ (out : Graph) (i : ℕ) (G : LinksGoing links old out i) where
-    pub links-here : (next : Graph) → is_set links i ≡ true → OneLinkMore (i / 128) (i % 128) out.links next.links → next.parts ≡ out.parts → next.count ≡ out.count
+    pub links-here : (next : Graph) → marked links i ≡ true → OneLinkMore (i / 128) (i % 128) out.links next.links → next.parts ≡ out.parts → next.count ≡ out.count
         → LinksGoing links old next (i + 1)
     links-here next e m p n = record {
       done = λ j u l h. m j u ∙ done j u l h (eqb j (i / 128)) refl (eqb u (i % 128)) refl;
@@ -108,7 +120,7 @@ module _ (links : List Bool) (old : Graph) where
         here j u a b = omega arith
 
         done : (j u : ℕ) → u < 128 → j * 128 + u < i + 1 → (a : Bool) → eqb j (i / 128) ≡ a → (b : Bool) → eqb u (i % 128) ≡ b
-            → cond (a && b) true (linked out.links j u) ≡ cond (is_set links (j * 128 + u)) true (linked old.links j u)
+            → cond (a && b) true (linked out.links j u) ≡ cond (marked links (j * 128 + u)) true (linked old.links j u)
         done j u l h true x true y = rw (here j u (eqb-true j (i / 128) x) (eqb-true u (i % 128) y), e) refl
         done j u l h true x false y = let z = eqb-false u (i % 128) y in let w = eqb-true j (i / 128) x in G.done j u l (omega arith)
         done j u l h false x b y = let z = eqb-false j (i / 128) x in G.done j u l (omega arith)
@@ -119,7 +131,7 @@ module _ (links : List Bool) (old : Graph) where
         left j u l h true x false y = G.left j u l (omega arith)
         left j u l h false x b y = G.left j u l (omega arith)
 
-    pub links-past : is_set links i ≡ false → LinksGoing links old out (i + 1)
+    pub links-past : marked links i ≡ false → LinksGoing links old out (i + 1)
     links-past e = record {
       done = λ j u l h. done j u l h (eqb (j * 128 + u) i) refl;
       left = λ j u l h. G.left j u l (omega arith);
@@ -128,7 +140,7 @@ module _ (links : List Bool) (old : Graph) where
     }
       where
         done : (j u : ℕ) → u < 128 → j * 128 + u < i + 1 → (a : Bool) → eqb (j * 128 + u) i ≡ a
-            → linked out.links j u ≡ cond (is_set links (j * 128 + u)) true (linked old.links j u)
+            → linked out.links j u ≡ cond (marked links (j * 128 + u)) true (linked old.links j u)
         done j u l h true x = let z = eqb-true (j * 128 + u) i x in G.left j u l (omega arith) ∙ rw (z, e) refl
         done j u l h false x = let z = eqb-false (j * 128 + u) i x in G.done j u l (omega arith)
 
@@ -138,18 +150,18 @@ module _ (links : List Bool) (old : Graph) where
 pub ruleset linking = (links-start, links-here, links-past, links-end)
 
 -- the types before `k` that have AOI 2 are noted
-pub record PartsGoing (ps : List Bool) (old out : Graph) (k : ℕ) : Type 0 where
-  pub done : (j : ℕ) → j < k → is_set out.parts j ≡ cond (is_set ps j) true (is_set old.parts j)
+pub record PartsGoing (ps : List ℕ) (old out : Graph) (k : ℕ) : Type 0 where
+  pub done : (j : ℕ) → j < k → is_set out.parts j ≡ cond (marked ps j) true (is_set old.parts j)
   pub left : (j : ℕ) → k ≤ j → is_set out.parts j ≡ is_set old.parts j
   pub links : out.links ≡ old.links
   pub count : out.count ≡ old.count
 
-module _ (parts : List Bool) (old : Graph) where
+module _ (parts : List ℕ) (old : Graph) where
   pub parts-start : PartsGoing parts old old 0
   parts-start = record { done = λ j h. absurd (omega arith); left = λ j h. refl; links = refl; count = refl }
 
   module _ (out : Graph) (k : ℕ) (G : PartsGoing parts old out k) where
-    pub parts-here : (next : Graph) → is_set parts k ≡ true → OneMore k out.parts next.parts → next.links ≡ out.links → next.count ≡ out.count → PartsGoing parts old next (k + 1)
+    pub parts-here : (next : Graph) → marked parts k ≡ true → OneMore k out.parts next.parts → next.links ≡ out.links → next.count ≡ out.count → PartsGoing parts old next (k + 1)
     parts-here next e m l n = record {
       done = λ j h. m j ∙ done j h (eqb j k) refl;
       left = λ j h. m j ∙ left j h (eqb j k) refl;
@@ -157,7 +169,7 @@ module _ (parts : List Bool) (old : Graph) where
       count = n ∙ G.count;
     }
       where
-        done : (j : ℕ) → j < k + 1 → (a : Bool) → eqb j k ≡ a → cond a true (is_set out.parts j) ≡ cond (is_set parts j) true (is_set old.parts j)
+        done : (j : ℕ) → j < k + 1 → (a : Bool) → eqb j k ≡ a → cond a true (is_set out.parts j) ≡ cond (marked parts j) true (is_set old.parts j)
         done j h true x = rw (eqb-true j k x, e) refl
         done j h false x = let z = eqb-false j k x in G.done j (omega arith)
 
@@ -165,7 +177,7 @@ module _ (parts : List Bool) (old : Graph) where
         left j h true x = let z = eqb-true j k x in absurd (omega arith)
         left j h false x = G.left j (omega arith)
 
-    pub parts-past : is_set parts k ≡ false → PartsGoing parts old out (k + 1)
+    pub parts-past : marked parts k ≡ false → PartsGoing parts old out (k + 1)
     parts-past e = record {
       done = λ j h. done j h (eqb j k) refl;
       left = λ j h. G.left j (omega arith);
@@ -173,7 +185,7 @@ module _ (parts : List Bool) (old : Graph) where
       count = G.count;
     }
       where
-        done : (j : ℕ) → j < k + 1 → (a : Bool) → eqb j k ≡ a → is_set out.parts j ≡ cond (is_set parts j) true (is_set old.parts j)
+        done : (j : ℕ) → j < k + 1 → (a : Bool) → eqb j k ≡ a → is_set out.parts j ≡ cond (marked parts j) true (is_set old.parts j)
         done j h true x = let z = eqb-true j k x in G.left j (omega arith) ∙ rw (z, e) refl
         done j h false x = let z = eqb-false j k x in G.done j (omega arith)
 
@@ -182,7 +194,7 @@ module _ (parts : List Bool) (old : Graph) where
 
 pub ruleset parting = (parts-start, parts-here, parts-past, parts-end)
 
-module _ (links parts : List Bool) (count : ℕ) where
+module _ (links parts : List ℕ) (count : ℕ) where
   pub laid-none : (r : Option Graph) → Made count r → r ≡ None → MadeOf links parts count None
   laid-none r m e = rw e at m
 
@@ -196,11 +208,11 @@ module _ (links parts : List Bool) (count : ℕ) where
             λ j v a b.
             let f = g.few in
             ap (λ t. linked t j v) B.links ∙ A.links j v (omega arith) (omega arith)
-            ∙ ap (cond (is_set links (j * 128 + v)) true) (ap (λ t. linked t j v) U.links ∙ no-link j v) ∙ aside (is_set links (j * 128 + v));
+            ∙ ap (cond (marked links (j * 128 + v)) true) (ap (λ t. linked t j v) U.links ∙ no-link j v) ∙ aside (marked links (j * 128 + v));
         parts =
             λ j a.
-            B.parts j (omega arith) ∙ ap (cond (is_set parts j) true) (ap (λ t. is_set t j) (A.parts ∙ U.parts) ∙ blank 128 j false false (λ b. b ≡ false) refl refl)
-            ∙ aside (is_set parts j);
+            B.parts j (omega arith) ∙ ap (cond (marked parts j) true) (ap (λ t. is_set t j) (A.parts ∙ U.parts) ∙ blank 128 j false false (λ b. b ≡ false) refl refl)
+            ∙ aside (marked parts j);
       }
     where
       aside : (b : Bool) → cond b true false ≡ b
@@ -213,7 +225,7 @@ module _ (links parts : List Bool) (count : ℕ) where
 pub ruleset laying = (laid-none)
 
 -- ---- refusal 7 of the tables
-module _ (links : List Bool) (count : ℕ) where
+module _ (links : List ℕ) (count : ℕ) where
   -- THEOREM: of more types than there may be none is told
   pub over-many : 128 < count → None ≡ first_told links count
   unfolding first_told
@@ -225,7 +237,7 @@ module _ (links : List Bool) (count : ℕ) where
       rw (le-leb count 128 (laid-few links [] count g L)) (ap (λ n. listed n (first_over g)) L.count ∙ ap (listed count) (first-agree g (tables links [] count) (laid-agree links [] count g L)))
 
 -- by the words of the code: `r` is the graph that was made
-module _ (links : List Bool) (count : ℕ) (r : Option Graph) (m : MadeOf links [] count r) where
+module _ (links : List ℕ) (count : ℕ) (r : Option Graph) (m : MadeOf links [] count r) where
   pub told-none : r ≡ None → None ≡ first_told links count
   told-none e = over-many links count (rw e at m)
 
@@ -235,21 +247,21 @@ module _ (links : List Bool) (count : ℕ) (r : Option Graph) (m : MadeOf links 
 pub ruleset telling = (told-none, told-some)
 
 -- ---- which types of the tables read whole
-module _ (links parts : List Bool) (count : ℕ) (old : List Bool) where
+module _ (links parts : List ℕ) (count : ℕ) (old : List ℕ) where
   -- THEOREM: for more types than there may be nothing is written
   pub marking-many : 128 < count → TablesMarked links parts count old old false
-  marking-many h = record { is = rw (lt-leb count 128 h) refl; marks = refl }
+  marking-many h = record { is = rw (lt-leb count 128 h) refl; bytes = refl }
 
   -- THEOREM: for more types than there is room for nothing is written
   pub marking-short : count ≤ 128 → length old < count → TablesMarked links parts count old old false
   unfolding walkable
   marking-short a h =
-      record { is = rw (le-leb count 128 a) (short (min count 128) (first_over (tables links parts count)) (min-eq_left a)); marks = refl }
+      record { is = rw (le-leb count 128 a) (short (min count 128) (first_over (tables links parts count)) (min-eq_left a)); bytes = refl }
     where
       short : (n x : ℕ) → n ≡ count → false ≡ (leb n (length old) && leb n x)
       short n x e = rw (e, lt-leb count (length old) h) refl
 
-  pub marking-laid : (g : Graph) (out : List Bool) (b : Bool) → Laid links parts count g → Marking g old out b → TablesMarked links parts count old out b
+  pub marking-laid : (g : Graph) (out : List ℕ) (b : Bool) → Laid links parts count g → Marking g old out b → TablesMarked links parts count old out b
   unfolding walkable
   marking-laid g out b L M =
       let A = laid-agree links parts count g L in
@@ -259,8 +271,12 @@ module _ (links parts : List Bool) (count : ℕ) (old : List Bool) where
             ∙ ap (λ n. leb g.count (length old) && leb g.count n) (first-agree g (tables links parts count) A)
             ∙ ap (λ n. leb n (length old) && leb n (first_over (tables links parts count))) A.count
             ∙ rw (le-leb count 128 (laid-few links parts count g L)) refl;
-        marks = M.marks ∙ ap (λ t. cond b t old) (ap (λ n. whole_row g ++ drop n old) (row-length g ∙ L.count) ∙ ap (λ t. t ++ drop count old) (row-agree g (tables links parts count) A));
+        bytes = M.bytes ∙ ap (λ t. cond b (answered t old) old) (marks-agree g (tables links parts count) A);
       }
+
+  -- THEOREM: for no more types than there may be it is said of the tables as of a graph
+  pub marking-is : (out : List ℕ) (b : Bool) → count ≤ 128 → TablesMarked links parts count old out b → Marking (tables links parts count) old out b
+  marking-is out b h M = record { is = M.is ∙ ap (λ t. t && walkable (tables links parts count) (length old)) (le-leb count 128 h); bytes = M.bytes }
 
   pub marks-none : (r : Option Graph) → MadeOf links parts count r → r ≡ None → TablesMarked links parts count old old false
   marks-none r m e = marking-many (rw e at m)

@@ -1,59 +1,53 @@
--- The marks of the types that read whole, put down in a lent row: all of them, or nothing is written.
+-- The marks of the types that read whole, put down in a lent row of bytes: all of them, or nothing is written.
 -- Assumes nothing.
-use Rattle.std.proofs.Common.{ℕ, zero, suc, ◌+◌, ◌<◌, ◌≤◌, ◌≡◌, refl, ap, ap₂, ◌∙◌, Bool, true, false, List, [], ◌∷◌, ◌++◌, length, get_or, take, drop, arith}
+use Rattle.std.proofs.Common.{ℕ, ◌+◌, ◌-◌, ◌<◌, ◌≤◌, ◌≡◌, refl, sym, ap, subst, ◌∙◌, Bool, true, false, List, ◌∷◌, length, arith}
 use Rattle.std.specs.Prelude.{None, Some}
+use lib.ListN.{set}
 use borrow.Author.Tests.{le-leb, lt-leb}
+use Rattle.fields.proofs.Filling.{Filling, filling-start, filling-room, filling-set, filling-end}
 use Rattle.nesting.specs.declared.graph.Graph.{Graph}
-use Rattle.nesting.specs.Graph.{whole_at, first_over, WholeTypes, each_from, whole_row, walkable, Marking}
+use Rattle.nesting.specs.Graph.{is_set, whole_at, first_over, WholeTypes, walkable, mark, marks_from, whole_marks, Marking}
+use Rattle.nesting.proofs.Ranges.{length-marks, marks-start, marks-more, marks-end}
 
--- ---- the marks of numbers in a row
-module _ (p : ℕ → Bool) where
-  pub length-each : (n i : ℕ) → length (each_from p n i) ≡ n
-  unfolding each_from
-  length-each zero i = refl
-  length-each (suc n) i = ap suc (length-each n (i + 1))
+-- the marks of the types before `k` are put down, and the others stay
+pub record Putting (g : Graph) (old out : List ℕ) (k : ℕ) : Type 0 where
+  pub fill : Filling (whole_marks g) old out k (marks_from (whole_at 16 g) (g.count - k) k)
 
-  pub each-taken : (marks : List Bool) (n i : ℕ) → n ≤ length marks → ((u : ℕ) → u < n → get_or marks u false ≡ p (i + u)) → take n marks ≡ each_from p n i
-  unfolding each_from
-  each-taken marks zero i h f = refl
-  each-taken [] (suc n) i h f = absurd (omega arith)
-  each-taken (m ∷ marks) (suc n) i h f =
-      let z : i + 0 ≡ i = omega arith in
-      ap₂ (λ (x : Bool) (r : List Bool). x ∷ r) (f 0 (omega arith) ∙ ap p z)
-      (each-taken marks n (i + 1) (omega arith) (λ u l. let y : i + suc u ≡ i + 1 + u = omega arith in f (suc u) (omega arith) ∙ ap p y))
+module _ (g : Graph) (old : List ℕ) where
+  pub row-short : length old < g.count → Marking g old old false
+  unfolding walkable
+  row-short h = record { is = rw (lt-leb g.count (length old) h) refl; bytes = refl }
 
-pub each_same : (p q : ℕ → Bool) (n i : ℕ) → ((u : ℕ) → u < i + n → p u ≡ q u) → each_from p n i ≡ each_from q n i
-unfolding each_from
-each_same p q zero i f = refl
-each_same p q (suc n) i f = ap₂ (λ (x : Bool) (r : List Bool). x ∷ r) (f i (omega arith)) (each_same p q n (i + 1) (λ u h. f u (omega arith)))
+  pub row-over : g.count ≤ length old → WholeTypes g None → Marking g old old false
+  unfolding walkable
+  row-over h w = record { is = rw (le-leb g.count (length old) h, lt-leb g.count (first_over g) w) refl; bytes = refl }
 
--- ---- the whole row
-module _ (g : Graph) where
-  pub row-length : length (whole_row g) ≡ g.count
-  unfolding whole_row
-  row-length = length-each (whole_at 16 g) g.count 0
+  pub putting-start : g.count ≤ length old → Putting g old old 0
+  unfolding whole_marks
+  putting-start h =
+      let l = length-marks (whole_at 16 g) g.count 0 in
+      record { fill = rw (← marks-start (whole_at 16 g) g.count) (filling-start (marks_from (whole_at 16 g) g.count 0) old (omega arith)) }
 
-  row-taken : (whole : List Bool) → WholeTypes g (Some whole) → take g.count whole ≡ whole_row g
-  unfolding whole_row
-  row-taken whole w =
-      let m = w.2 in
-      let f = g.few in
-      each-taken (whole_at 16 g) whole g.count 0 (omega arith) (λ u l. let z : u ≡ 0 + u = omega arith in w.1 u l ∙ ap (whole_at 16 g) z)
+  module _ (out : List ℕ) (k : ℕ) (P : Putting g old out k) where
+    pub putting-room : k < g.count → k < length out
+    putting-room h =
+        let l = length-marks (whole_at 16 g) (g.count - k) k in
+        let r = filling-room (whole_marks g) old out k (marks_from (whole_at 16 g) (g.count - k) k) P.fill in
+        omega arith
 
-  module _ (old : List Bool) where
-    pub row-short : length old < g.count → Marking g old old false
+    pub putting-step : (whole : List Bool) (v : ℕ) → k < g.count → WholeTypes g (Some whole) → v ≡ mark (is_set whole k) → Putting g old (set out k v) (k + 1)
+    putting-step whole v h w e =
+        let p : ℕ → Bool = whole_at 16 g in
+        let q : v ≡ mark (p k) = e ∙ ap mark (w.1 k h) in
+        let rest : List ℕ = marks_from p (g.count - (k + 1)) (k + 1) in
+        let m : marks_from p (g.count - k) k ≡ v ∷ rest = marks-more p g.count k h ∙ ap (λ x. x ∷ rest) (sym q) in
+        record { fill = filling-set (whole_marks g) old out k v rest (subst (Filling (whole_marks g) old out k) m P.fill) }
+
+    pub putting-end : (whole : List Bool) → g.count ≤ length old → WholeTypes g (Some whole) → g.count ≤ k → Marking g old out true
     unfolding walkable
-    row-short h = record { is = rw (lt-leb g.count (length old) h) refl; marks = refl }
-
-    pub row-over : g.count ≤ length old → WholeTypes g None → Marking g old old false
-    unfolding walkable
-    row-over h w = record { is = rw (le-leb g.count (length old) h, lt-leb g.count (first_over g) w) refl; marks = refl }
-
-    pub row-marked : (whole front : List Bool) → g.count ≤ length old → WholeTypes g (Some whole) → front ≡ take g.count whole → Marking g old (front ++ drop g.count old) true
-    unfolding walkable
-    row-marked whole front h w e = record {
-      is = rw (le-leb g.count (length old) h, le-leb g.count (first_over g) w.0) refl;
-      marks = rw (row-length, e, row-taken whole w) refl;
+    putting-end whole a w h = record {
+      is = rw (le-leb g.count (length old) a, le-leb g.count (first_over g) w.0) refl;
+      bytes = filling-end (whole_marks g) old out k (subst (Filling (whole_marks g) old out k) (marks-end (whole_at 16 g) g.count k h) P.fill);
     }
 
-pub ruleset marking = (row-short, row-over, row-marked)
+pub ruleset marking = (row-short, row-over, putting-start, putting-room, putting-step, putting-end)

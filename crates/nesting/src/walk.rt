@@ -154,11 +154,11 @@ impl Graph {
         Some(whole)
     }
 
-    /// Marks, type by type, which types read whole, and says whether it did. It writes nothing where there are fewer marks than
-    /// types, or where a type is nested over 16; past the last type a mark stays.
-    // Two tests, and nothing is written before both.
+    /// Marks the types that read whole with 1 and the others with 0, and says whether it did. It writes nothing where there are fewer
+    /// marks than types, or where a type is nested over 16; past the last type a mark stays.
+    // Two tests, and nothing is written before both. The marks are lent, as bytes.
     #[tactic(auto, using(crate::proofs::Marked::marking))]
-    pub fn mark_whole(&self, marks: &mut [bool]) -> bool
+    pub fn mark_whole(&self, marks: &mut [u8]) -> bool
         ensures { Marking self.now marks.old marks.new result }
     {
         if marks.len() < self.count {
@@ -166,7 +166,9 @@ impl Graph {
         }
         match self.whole_types() {
             Some(whole) => {
-                marks[..self.count].copy_from_slice(&whole[..self.count]);
+                for k in 0..self.count {
+                    marks[k] = u8::from(whole[k]);
+                }
                 true
             }
             None => false,
