@@ -161,6 +161,7 @@ impl Reads {
     }
 
     /// One read more, behind the others, if there is room for it and for its positions; whether there was. Else the reads stay as they are.
+    // Two tests, and nothing is written before both.
     #[tactic(auto, using(crate::proofs::Rooms::no_row, crate::proofs::Rooms::no_place, crate::proofs::Rooms::room, crate::proofs::Rooms::added_no_row, crate::proofs::Rooms::added_no_place, crate::proofs::Rooms::added_room))]
     pub fn add(&mut self, read: Read) -> bool
         ensures room { result ≡ has_room self.old (length read.entry.serves.now) }
