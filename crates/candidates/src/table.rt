@@ -7,7 +7,7 @@ pub enum Shape {
     /// A struct, whole: its bytes.
     Struct { size: u16 },
     /// A run of elements: its cluster's number among those of its array, from 1 on, and the bytes of an element.
-    Run { number: u16, width: u8 },
+    Run { number: u16, width: u16 },
 }
 
 /// A group: the tag that spells it, where its name or its array's ends there, and how it is read.

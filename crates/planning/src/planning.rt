@@ -78,7 +78,7 @@ impl<'a> Planning<'a> {
     {
         match self.group(j).group.shape {
             Shape::Struct { size } => size,
-            Shape::Run { width, .. } => u16::from(width),
+            Shape::Run { width, .. } => width,
         }
     }
 
