@@ -22,3 +22,4 @@ pub mod Levels
 pub mod Pushing
 pub mod Written
 pub mod Rooms
+pub mod Widths

@@ -1,6 +1,6 @@
 -- The groups as a list: what a row of the table tells, with the positions of all groups in a row beside it.
 -- Assumes nothing: these are definitions.
-use Rattle.std.specs.Prelude.{ℕ, ◌+◌, ◌-◌, ◌≤◌, Bool, cond, ◌&&◌, List, [], ◌∷◌, ◌++◌, take, drop, length, get_or, ltb, leb, sum_by}
+use Rattle.std.specs.Prelude.{ℕ, ◌+◌, ◌-◌, ◌≤◌, ◌<◌, Bool, cond, ◌&&◌, List, [], ◌∷◌, ◌++◌, take, drop, length, get_or, ltb, leb, sum_by}
 use Rattle.candidates.specs.Columns.{Bunch}
 use Rattle.candidates.specs.declared.table.Shape.{Shape}
 use Rattle.candidates.specs.declared.table.Shape.TheVariants.{Struct, Run}
@@ -29,6 +29,10 @@ weight_of (Run number width) = width
 -- how many positions a group serves
 abbrev pub served_count : Bunch → ℕ
 served_count b = length b.serves
+
+-- a group whose struct, or element, has 255 bytes at most
+abbrev pub Narrow : Bunch → Type 0
+Narrow b = b.weight < 256
 
 -- a group with the positions that it serves
 abbrev pub bunch_with : Group → List ℕ → Bunch

@@ -11,3 +11,4 @@ pub mod Alikes
 pub mod Viewing
 pub mod Considering
 pub mod Deciding
+pub mod Within
